@@ -244,41 +244,6 @@ def filled(trace, number, octets):
     return span
 
 
-KINDS = [
-    ("always_sample", ""),
-    ("latency", "threshold_ms = 0"),
-    ("status_code", 'status_codes = ["ERROR"]'),
-    ("string_attribute", 'key = "k", values = ["v"]'),
-    ("string_attribute", "key = \"k\", values = ['^v'], enabled_regex_matching = true"),
-    ("string_attribute", 'key = "k", values = ["w"], invert_match = true'),
-    ("numeric_attribute", 'key = "n", min_value = 7'),
-    ("boolean_attribute", 'key = "b", value = true'),
-    ("span_count", "min_spans = 1"),
-    ("probabilistic", "sampling_percentage = 100"),
-    ("rate_limiting", "spans_per_second = 1000"),
-    ("bytes_limiting", "bytes_per_second = 1000000"),
-    ("trace_state", 'key = "k", values = ["v"]'),
-    ("trace_flags", ""),
-    ("and", 'and_sub_policy = [{ name = "all", type = "always_sample" }]'),
-    ("not", 'not_sub_policy = { name = "many", type = "span_count", span_count = { min_spans = 9 } }'),
-    ("composite", 'max_total_spans_per_second = 1000, policy_order = ["all"], composite_sub_policy = [{ name = "all", type = "always_sample" }]'),
-]
-
-
-def sampled_but_too_big(folder):
-    """Under each kind of policy a trace that it samples, of the greatest size, and one that has a byte more: none samples that."""
-    values = [attribute("k", stringValue="v"), attribute("n", intValue="7"), attribute("b", boolValue=True)]
-    for number, (kind, settings) in enumerate(KINDS):
-        table = f", {kind} = {{ {settings} }}" if settings else ""
-        policies = f'policies = [{{ name = "it", type = "{kind}"{table} }}]\n'
-        spans = [plain_span(trace, trace, attributes=values, flags=1, traceState="k=v", status={"code": 2}) for trace in (1, 2)]
-        spans[1]["name"] = "n"
-        maximum = size(spans[:1]) + PLAIN
-        run = Run(folder, f"too big for {kind} {number}", {"maximum_trace_size_bytes": maximum}, policies, lambda records: True)
-        run.receive(1, plain_request([spans[0], plain_span(1, 3), spans[1], plain_span(2, 4), plain_span(2, 5)]))
-        run.finish()
-
-
 def traces_of_two_sizes(folder):
     """Traces that grow beyond the maximum in the middle of a request, at their first span, at a span of a later request, or not at all, one after the other and mixed."""
     for maximum in (1, PLAIN - 1, PLAIN, 2 * PLAIN, 2 * PLAIN + 1, 400, 2**30):
@@ -329,5 +294,5 @@ def one_bucket_over_shards(folder):
 
 
 if __name__ == "__main__":
-    for write in (greatest_request, full_queue_and_batches, lanes_and_shards, policies_nested, million_traces, sampled_but_too_big, traces_of_two_sizes, too_big_in_a_full_buffer, too_big_asks_no_limiter, one_bucket_over_shards):
+    for write in (greatest_request, full_queue_and_batches, lanes_and_shards, policies_nested, million_traces, traces_of_two_sizes, too_big_in_a_full_buffer, too_big_asks_no_limiter, one_bucket_over_shards):
         write(sys.argv[1])

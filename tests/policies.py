@@ -8,7 +8,8 @@ Whether the trace is kept stands in the tables, by the tailsamplingprocessor's r
 """
 import sys
 
-from limits import Run, attribute, plain_span, size
+from limits import PLAIN, Run, attribute, plain_request, plain_span, size
+from tables import policy_types
 
 TOP = 2**64 - 1
 WHOLE_TOP = 2**63 - 1
@@ -362,6 +363,43 @@ def first_matches(folder):
         run.finish()
 
 
+KINDS = [
+    ("always_sample", ""),
+    ("latency", "threshold_ms = 0"),
+    ("status_code", 'status_codes = ["ERROR"]'),
+    ("string_attribute", 'key = "k", values = ["v"]'),
+    ("string_attribute", "key = \"k\", values = ['^v'], enabled_regex_matching = true"),
+    ("string_attribute", 'key = "k", values = ["w"], invert_match = true'),
+    ("numeric_attribute", 'key = "n", min_value = 7'),
+    ("boolean_attribute", 'key = "b", value = true'),
+    ("span_count", "min_spans = 1"),
+    ("probabilistic", "sampling_percentage = 100"),
+    ("rate_limiting", "spans_per_second = 1000"),
+    ("bytes_limiting", "bytes_per_second = 1000000"),
+    ("trace_state", 'key = "k", values = ["v"]'),
+    ("trace_flags", ""),
+    ("and", 'and_sub_policy = [{ name = "all", type = "always_sample" }]'),
+    ("not", 'not_sub_policy = { name = "many", type = "span_count", span_count = { min_spans = 9 } }'),
+    ("composite", 'max_total_spans_per_second = 1000, policy_order = ["all"], composite_sub_policy = [{ name = "all", type = "always_sample" }]'),
+]
+
+
+def sampled_but_too_big(folder):
+    """Under each kind of policy a trace that it samples, of the greatest size, and one that has a byte more: none samples that."""
+    if (untold := set(policy_types()) - {kind for kind, _ in KINDS}) != {"drop"}:  # (which samples nothing)
+        raise SystemExit(f"policies.py: KINDS lacks {untold - {'drop'}}, or has `drop`")
+    values = [attribute("k", stringValue="v"), attribute("n", intValue="7"), attribute("b", boolValue=True)]
+    for number, (kind, settings) in enumerate(KINDS):
+        table = f", {kind} = {{ {settings} }}" if settings else ""
+        written = f'policies = [{{ name = "it", type = "{kind}"{table} }}]\n'
+        spans = [plain_span(trace, trace, attributes=values, flags=1, traceState="k=v", status={"code": 2}) for trace in (1, 2)]
+        spans[1]["name"] = "n"
+        maximum = size(spans[:1]) + PLAIN
+        run = Run(folder, f"too big for {kind} {number}", {"maximum_trace_size_bytes": maximum}, written, lambda records: True)
+        run.receive(1, plain_request([spans[0], plain_span(1, 3), spans[1], plain_span(2, 4), plain_span(2, 5)]))
+        run.finish()
+
+
 if __name__ == "__main__":
-    for write in (latencies, times_at_the_top, status_codes, span_counts, rates, byte_rates, attributes, expressions, expressions_and_values, expressions_together, long_texts, percentages, trace_states, trace_flags, policies_together, policies_of_policies, composites, bytes_together, first_matches):
+    for write in (latencies, times_at_the_top, status_codes, span_counts, rates, byte_rates, attributes, expressions, expressions_and_values, expressions_together, long_texts, percentages, trace_states, trace_flags, policies_together, policies_of_policies, composites, bytes_together, first_matches, sampled_but_too_big):
         write(sys.argv[1])

@@ -68,7 +68,21 @@ def policy_settings():
     names = dict(re.findall(r'^type_name type_is\.(\w+) = codes "(\w+)"', text, re.M))
     found = {name: [] for name in names.values()}
     for name, rows in re.findall(r"^settings type_is\.(\w+) = (.*)$", text, re.M):
-        for presence, key, kind in re.findall(r'(required|optional) \(codes "(\w+)"\) (natural|value_is\.\w+|\(value_is\.Array item_is\.\w+\))', rows):
-            bounds = (0, 2**63 - 1) if kind == "natural" else (None, None)
-            found[names[name]].append(Setting(key, "Integer" if kind == "natural" else re.findall(r"\.(\w+)", kind)[0], *bounds, presence == "required"))
+        for row in rows.split(" ∷ "):
+            if setting := re.match(r'(required|optional) \(codes "(\w+)"\) (.*)$', row):
+                presence, key, kind = setting.groups()
+                found[names[name]].append(Setting(key, *kind_of(kind, text), presence == "required"))
+            elif row != "[]":
+                raise SystemExit(f"tables.py: what is {row!r} in the settings of {name}?")
     return found
+
+
+def kind_of(kind, text):
+    """What a kind of value is, and its bounds; a name without a dot is one that the definitions in the text give to a kind."""
+    if number := re.match(r"\(?value_is\.Integer \(pos (\d+)\) \(pos (\d+)\)", kind):
+        return "Integer", int(number[1]), int(number[2])
+    if other := re.match(r"value_is\.(\w+)$|\(value_is\.(Array) item_is\.\w+\)$", kind):
+        return other[1] or other[2], None, None
+    if re.search(rf"^{kind} = ", text, re.M):
+        return kind_of(list_of(text, kind), text)
+    raise SystemExit(f"tables.py: what is the kind {kind!r}?")

@@ -63,7 +63,8 @@ def run(room, crate, words):
 
 def keep(room, crate, proved, said):
     """Puts what a check in the room kept in place of what the crate had, with what it said, and the sum of what was proved, if it was."""
-    Path(f"crates/{crate}/out/proved").unlink(missing_ok=True)
+    for name in ("proved", "check.log"):  # (another clone may have the same file, by `adopt.py`)
+        Path(f"crates/{crate}/out/{name}").unlink(missing_ok=True)
     for part in ("incremental", "rlib"):
         made, to = f"{room.name}/crates/{crate}/out/{part}", f"crates/{crate}/out/{part}"
         if os.path.isdir(made):

@@ -2,6 +2,13 @@
 //!
 //! [`serve`] is the whole of it: it reads a head, answers it once, and ends. What a head asks for stands in
 //! `specs/Asked`, the bytes of each answer in `specs/Texts`, and what a connection does in `specs/Serving`.
+//!
+//! ```
+//! match serve(alloc, &mut reader, &mut writer, &mut admin) {
+//!     AdminEnd::Heard(asked, portion) => note(asked, portion),
+//!     AdminEnd::Unheard(silence) => note_silence(silence),
+//! }
+//! ```
 #![tactic(auto)]
 
 mod admin;

@@ -4,6 +4,13 @@
 //! are the batches, and [`KeepingSink`] prints each line before another sink gets it. They know no threads and no
 //! sockets: what tries, tells the time and waits is a [`Backend`]. `specs/Rules` says what each answer means and how
 //! long is waited, `specs/Deliveries` what a delivery did.
+//!
+//! ```
+//! let rule = Retry { initial: 5_000, longest: 30_000, patience: 300_000 };
+//! let mut batches = BatchSink::new(&rt, rule, backend, spans);
+//! let taken = batches.write(batch)?;
+//! let given_up = batches.given_up();
+//! ```
 #![tactic(auto)]
 
 mod backend;

@@ -11,14 +11,13 @@ use collector_serve::{
 use config_text::settings_in_force;
 use lane_driver::Loads;
 use otlp_types::TryClone;
+use pipeline::Machine;
 use std::alloc::{AllocError, Global};
 use std::fs::File;
 use std::io::Read;
 use std::net::{Net, TcpListener, TcpStream};
 use std::rt::Files;
 use std::sync::{Arc, Wait};
-use std::thread::Threads;
-use std::time::Clock;
 use std::{fs, io};
 use tsc_config::Config;
 
@@ -58,11 +57,14 @@ pub fn charge_of(
 
 /// Looks at what memory the process takes, for those in charge, and refuses requests while it is more than the
 /// configuration says.
-pub fn watches_memory<T: Files<File = File> + Threads + Wait + Clock + Copy + Send + 'static>(
-    rt: &T,
-    config: &Config,
-    charge: &Arc<Charge, Global>,
-) -> io::Result<()> {
+pub fn watches_memory<
+    T: Files<File = File>
+        + Net<Listener = TcpListener, Stream = TcpStream>
+        + Machine
+        + Copy
+        + Send
+        + 'static,
+>(rt: &T, config: &Config, charge: &Arc<Charge, Global>) -> io::Result<()> {
     if config.memory_limit_mib == 0 && config.admin.as_str().is_empty() {
         return Ok(());
     }
@@ -78,11 +80,9 @@ pub fn watches_memory<T: Files<File = File> + Threads + Wait + Clock + Copy + Se
 /// Listens at the address of requests, and, as the configuration says, at that for those in charge, and to the end of
 /// the input.
 pub fn opened<
-    T: Net<Listener = TcpListener, Stream = TcpStream>
-        + Files
-        + Threads
-        + Wait
-        + Clock
+    T: Files<File = File>
+        + Net<Listener = TcpListener, Stream = TcpStream>
+        + Machine
         + Copy
         + Send
         + 'static,

@@ -18,6 +18,7 @@ use config_faults::ConfigFault;
 use drop_ledger::{Count, Report};
 use itoa::Buffer;
 use lane_seq::put;
+use pipeline::Machine;
 use script_session::{ReplayFault, replay_run};
 use span_ids::Reason;
 use span_sink::{LineSink, Sink, WriteSink};
@@ -25,11 +26,7 @@ use std::alloc::Global;
 use std::fs::File;
 use std::io::{Read, Write};
 use std::net::{Net, TcpListener, TcpStream};
-use std::random::RandomSource;
 use std::rt::Files;
-use std::sync::Wait;
-use std::thread::Threads;
-use std::time::Clock;
 use tsc_script::Source;
 
 /// Room for a line of the report or of a refusal, in bytes.
@@ -91,21 +88,24 @@ pub enum Outcome {
 /// Runs the program with the arguments behind its own name. `reader` gives a script; `input` is the same standard
 /// input, for a collector that is closed at its end. It gives the writer back beside the exit status.
 pub fn program<
-    T: Files<File = File>
+    Runtime: Files<File = File>
         + Net<Listener = TcpListener, Stream = TcpStream>
-        + Threads
-        + Wait
-        + Clock
-        + RandomSource
-        + Sync
+        + Machine
         + Copy
         + Send
         + 'static,
-    R: Source,
-    I: Read + Send + Drop + 'static,
-    W: Write + Drop,
->(rt: &T, alloc: Global, arguments: &[String], reader: &mut R, input: I, writer: W) -> (W, u8)
-    ensures { Ends (map string_bytes arguments.now) (R.given reader.old) (R.given reader.new) (W.contents writer) (W.contents result.0) result.1 }
+    Script: Source,
+    Input: Read + Send + Drop + 'static,
+    Writer: Write + Drop,
+>(
+    rt: &Runtime,
+    alloc: Global,
+    arguments: &[String],
+    reader: &mut Script,
+    input: Input,
+    writer: Writer,
+) -> (Writer, u8)
+    ensures { Ends (map string_bytes arguments.now) (Script.given reader.old) (Script.given reader.new) (Writer.contents writer) (Writer.contents result.0) result.1 }
 {
     let Ok(mut text) = Vec::with_capacity(alloc, TEXT_ROOM) else {
         return (without_memory(writer), 5);
@@ -166,27 +166,30 @@ fn exit_status(outcome: &Outcome, written: bool) -> u8
 
 /// Does what the arguments say.
 fn run<
-    T: Files<File = File>
+    Runtime: Files<File = File>
         + Net<Listener = TcpListener, Stream = TcpStream>
-        + Threads
-        + Wait
-        + Clock
-        + RandomSource
-        + Sync
+        + Machine
         + Copy
         + Send
         + 'static,
-    R: Source,
-    I: Read + Send + Drop + 'static,
-    W: Write + Drop,
->(rt: &T, alloc: Global, arguments: &[String], reader: &mut R, input: I, writer: W) -> (W, Outcome)
+    Script: Source,
+    Input: Read + Send + Drop + 'static,
+    Writer: Write + Drop,
+>(
+    rt: &Runtime,
+    alloc: Global,
+    arguments: &[String],
+    reader: &mut Script,
+    input: Input,
+    writer: Writer,
+) -> (Writer, Outcome)
     ensures { (file : Result (List ℕ) FileFault) × CameTo (record {
       arguments = map string_bytes arguments.now;
       file = file;
-      unread = R.given reader.old;
-      unread_after = R.given reader.new;
-      taken = W.contents writer;
-      taken_after = W.contents result.0;
+      unread = Script.given reader.old;
+      unread_after = Script.given reader.new;
+      taken = Writer.contents writer;
+      taken_after = Writer.contents result.0;
     }) result.1 }
 {
     let Some((command, path)) = asked(arguments) else {
@@ -229,13 +232,9 @@ fn replay_by<R: Source, W: Write>(
 /// Takes requests on a listener by the configuration in what was read of its file. The end of `input` closes the
 /// collector, where the configuration says so.
 fn serve_by<
-    T: Net<Listener = TcpListener, Stream = TcpStream>
-        + Files<File = File>
-        + Threads
-        + Wait
-        + Clock
-        + RandomSource
-        + Sync
+    T: Files<File = File>
+        + Net<Listener = TcpListener, Stream = TcpStream>
+        + Machine
         + Copy
         + Send
         + 'static,

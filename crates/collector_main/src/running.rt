@@ -8,26 +8,17 @@ use crate::program::Outcome;
 use crate::sending::send_with;
 use collector_serve::{Charge, StoppingSink, WallClock, drivers, serve_on};
 use drop_ledger::Report;
-use pipeline::{RunContext, ServeFault};
+use pipeline::{Machine, RunContext, ServeFault};
 use span_sink::WriteSink;
 use std::alloc::Global;
 use std::io::{ErrorKind, Write};
 use std::net::{Net, TcpListener, TcpStream};
-use std::random::RandomSource;
-use std::sync::Wait;
-use std::thread::Threads;
-use std::time::Clock;
 use tsc_config::Config;
 
 /// Takes requests on a listener by a configuration, and prints the lines, or sends them to a backend, or both.
 pub fn serve_with<
     's,
-    T: Net<Listener = TcpListener, Stream = TcpStream>
-        + Threads
-        + Wait
-        + Clock
-        + RandomSource
-        + Sync,
+    T: Net<Listener = TcpListener, Stream = TcpStream> + Machine,
     W: Write + Drop,
 >(
     rt: &T,
@@ -49,7 +40,7 @@ pub fn serve_with<
 
 /// Takes requests on a listener by a configuration, and prints the lines. What is shared with those in charge has the
 /// mark to stop and the counts.
-fn print_with<'s, T: Net + Threads + Wait + Clock + RandomSource + Sync, W: Write + Drop>(
+fn print_with<'s, T: Net + Machine, W: Write + Drop>(
     rt: &T,
     alloc: Global,
     config: Config,

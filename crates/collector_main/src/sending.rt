@@ -17,31 +17,18 @@ use export_report::moved;
 use lane_turns::Driver;
 use lane_worker::ByTurns;
 use otlp_types::TryClone;
-use pipeline::{RunContext, ServeFault};
+use pipeline::{Machine, RunContext, ServeFault};
 use post_http::endpoint_of;
 use post_socket::{BackendSettings, SocketBackend};
 use span_sink::{Sink, WriteSink};
 use std::alloc::Global;
 use std::io::{ErrorKind, Write};
 use std::net::{Net, TcpListener, TcpStream};
-use std::random::RandomSource;
-use std::sync::Wait;
-use std::thread::Threads;
-use std::time::Clock;
 use tsc_config::Config;
 
 /// Takes requests on a listener by a configuration, and sends the lines to a backend; it prints them too, where the
 /// configuration says so.
-pub fn send_with<
-    's,
-    T: Net<Listener = TcpListener, Stream = TcpStream>
-        + Threads
-        + Wait
-        + Clock
-        + RandomSource
-        + Sync,
-    W: Write + Drop,
->(
+pub fn send_with<'s, T: Net<Listener = TcpListener, Stream = TcpStream> + Machine, W: Write + Drop>(
     rt: &T,
     alloc: Global,
     config: Config,
@@ -89,12 +76,7 @@ fn export_on<
     's,
     't,
     D: Driver + Send + Drop,
-    T: Net<Listener = TcpListener, Stream = TcpStream>
-        + Threads
-        + Wait
-        + Clock
-        + RandomSource
-        + Sync,
+    T: Net<Listener = TcpListener, Stream = TcpStream> + Machine,
 >(
     rt: &T,
     alloc: Global,
@@ -119,12 +101,7 @@ fn export_on<
 fn keep_on<
     's,
     D: Driver + Send + Drop,
-    T: Net<Listener = TcpListener, Stream = TcpStream>
-        + Threads
-        + Wait
-        + Clock
-        + RandomSource
-        + Sync,
+    T: Net<Listener = TcpListener, Stream = TcpStream> + Machine,
     W: Write + Drop,
 >(
     rt: &'s T,
@@ -154,12 +131,7 @@ fn keep_on<
 }
 
 /// Takes requests by a configuration that says how many batches wait for a backend, and hands the lines to a sink.
-fn serve_through<
-    's,
-    D: Driver + Send + Drop,
-    T: Threads + Wait + Clock + RandomSource + Sync,
-    S: Sink + Drop,
->(
+fn serve_through<'s, D: Driver + Send + Drop, T: Machine, S: Sink + Drop>(
     rt: &T,
     alloc: Global,
     config: Config,

@@ -13,15 +13,13 @@ use http_text::Allowed;
 use lane_driver::{ConnectionShare, Loads, TurnDriver};
 use lane_turns::Driver;
 use lane_worker::ByTurns;
-use pipeline::{RunContext, ServeFault, run_by_turns};
+use pipeline::{Machine, RunContext, ServeFault, run_by_turns};
 use span_sink::Sink;
 use std::alloc::Global;
 use std::io;
 use std::io::ErrorKind;
 use std::net::{Net, TcpListener, TcpStream, ToSocketAddrs};
-use std::random::RandomSource;
 use std::sync::{Arc, Wait};
-use std::thread::Threads;
 use std::time::Clock;
 use tsc_config::Config;
 
@@ -47,22 +45,26 @@ pub fn listen<R: Net<Listener = TcpListener, Stream = TcpStream>>(
 /// ids are hashed. Then no connection was taken, and the drivers come back as they were.
 pub fn serve_on<
     's,
-    D: Driver + Send + Drop,
-    S: Sink + Drop,
-    P: HasStopMark + Sync,
-    M: Moments + Sync,
-    R: Threads + Wait + Clock + RandomSource + Sync,
+    Poller: Driver + Send + Drop,
+    Output: Sink + Drop,
+    Mark: HasStopMark + Sync,
+    Time: Moments + Sync,
+    Runtime: Machine,
 >(
-    context: &RunContext<'s, Board, P, M, R>,
+    context: &RunContext<'s, Board, Mark, Time, Runtime>,
     config: Config,
-    drivers: Vec<ByTurns<D>>,
-    sink: S,
-) -> (S, Result<Report, ServeFault>, Option<Vec<ByTurns<D>>>)
+    drivers: Vec<ByTurns<Poller>>,
+    sink: Output,
+) -> (
+    Output,
+    Result<Report, ServeFault>,
+    Option<Vec<ByTurns<Poller>>>,
+)
     requires ranges { InRange config }
     requires drivers { vec_len drivers ≡ config.lanes }
-    requires failures { S.failures sink < 2 ^ 64 - 1 }
-    ensures sink { SinkAnswers (S.taken sink) (S.failures sink) (S.taken result.0) (S.failures result.0) result.1 }
-    ensures ran { CoreRunTells config (S.taken sink) (S.failures sink) (S.taken result.0) (S.failures result.0) result.1 }
+    requires failures { Output.failures sink < 2 ^ 64 - 1 }
+    ensures sink { SinkAnswers (Output.taken sink) (Output.failures sink) (Output.taken result.0) (Output.failures result.0) result.1 }
+    ensures ran { CoreRunTells config (Output.taken sink) (Output.failures sink) (Output.taken result.0) (Output.failures result.0) result.1 }
     ensures begun { is_none result.2 ≡ has_begun result.1 }
     ensures back { IfSome result.2 (λ back. back.items ≡ drivers.items) }
 {

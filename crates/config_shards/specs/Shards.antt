@@ -6,7 +6,7 @@ use Rattle.tsc_config.specs.declared.config.Config.{Config}
 
 -- the settings of each shard: its share of the traces and of the caches; its senders are the lanes and the ticker
 abbrev pub settings_by : Config → Settings
-settings_by config = settings_of config.policies config.decision_wait config.root_wait config.maximum_trace_size (config.num_traces / config.shards) (config.sampled_cache_size / config.shards) (config.non_sampled_cache_size / config.shards) (config.lanes + 1)
+settings_by config = settings_of config.policies (record { decision_wait = config.decision_wait; root_wait = config.root_wait; maximum_trace_size = config.maximum_trace_size }) (config.num_traces / config.shards) (config.sampled_cache_size / config.shards) (config.non_sampled_cache_size / config.shards) (config.lanes + 1)
 
 -- What is asked of a configuration, by those who make shards of it, replay by it, or begin threads by it: parts of
 -- `InRange`, which holds of each that was read.

@@ -3,7 +3,7 @@ ghost use Rattle.std.specs.Prelude.{◌≡◌, All, length, vec_len, IfOk};
 ghost use Rattle.config_shards.specs.Shards.{CanMakeShards, IsNewShard};
 
 use otlp_types::TryClone;
-use shard_core::{Shard, ShardSetup};
+use shard_core::{Shard, ShardSetup, Waits};
 use std::alloc::{AllocError, Global};
 use trace_hash::TraceHashing;
 use tsc_config::Config;
@@ -34,9 +34,11 @@ fn new_shard(alloc: Global, hashing: TraceHashing, config: &Config) -> Result<Sh
     let policies = config.policies.try_clone(alloc)?;
     let setup = ShardSetup {
         hashing,
-        decision_wait: config.decision_wait,
-        root_wait: config.root_wait,
-        maximum_trace_size: config.maximum_trace_size,
+        waits: Waits {
+            decision_wait: config.decision_wait,
+            root_wait: config.root_wait,
+            maximum_trace_size: config.maximum_trace_size,
+        },
         num_traces: config.traces_per_shard(),
         sampled_cache_size: config.sampled_cache_per_shard(),
         non_sampled_cache_size: config.non_sampled_cache_per_shard(),

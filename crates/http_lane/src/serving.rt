@@ -93,16 +93,23 @@ pub(crate) fn end_with(fate: EventFate, closes: bool) -> Option<ServeEnd>
 }
 
 /// Hands a text to the lane, counts its spans and answers.
-fn submit<'l, P: Port<Item>, C: Counter, W: Write, S: HasStopMark, K: Clock>(
-    lent: &Lent<'l, S, K>,
-    lane: &mut Lane<P>,
+fn submit<
+    'l,
+    ShardPort: Port<Item>,
+    Ledger: Counter,
+    Writer: Write,
+    Mark: HasStopMark,
+    Time: Clock,
+>(
+    lent: &Lent<'l, Mark, Time>,
+    lane: &mut Lane<ShardPort>,
     conn: &mut Conn,
-    counts: &mut C,
-    writer: &mut W,
+    counts: &mut Ledger,
+    writer: &mut Writer,
     text: &[u8],
     says_close: bool,
 ) -> (bool, EventFate)
-    ensures { (is_packed : Bool) (body : List ℕ) → IsTextOf is_packed body text.now → Responds (Submits P.takes P.refuses) (W.contents writer.old) (W.contents writer.new) (intake lane.old conn.old (C.counted counts.old)) (intake lane.new conn.new (C.counted counts.new)) is_packed (Some body) says_close result }
+    ensures { (is_packed : Bool) (body : List ℕ) → IsTextOf is_packed body text.now → Responds (Submits ShardPort.takes ShardPort.refuses) (Writer.contents writer.old) (Writer.contents writer.new) (intake lane.old conn.old (Ledger.counted counts.old)) (intake lane.new conn.new (Ledger.counted counts.new)) is_packed (Some body) says_close result }
 {
     let reply = lane.submit(lent.alloc, conn, text, lent.clock.now());
     if !count(counts, &reply) {
@@ -133,16 +140,23 @@ fn unfit(fault: GzipFault) -> Response
 }
 
 /// Unpacks a body and serves its text.
-fn unpack<'l, P: Port<Item>, C: Counter, W: Write, S: HasStopMark, K: Clock>(
-    lent: &Lent<'l, S, K>,
-    lane: &mut Lane<P>,
+fn unpack<
+    'l,
+    ShardPort: Port<Item>,
+    Ledger: Counter,
+    Writer: Write,
+    Mark: HasStopMark,
+    Time: Clock,
+>(
+    lent: &Lent<'l, Mark, Time>,
+    lane: &mut Lane<ShardPort>,
     conn: &mut Conn,
-    counts: &mut C,
-    writer: &mut W,
+    counts: &mut Ledger,
+    writer: &mut Writer,
     body: &[u8],
     says_close: bool,
 ) -> (bool, EventFate)
-    ensures { Responds (Submits P.takes P.refuses) (W.contents writer.old) (W.contents writer.new) (intake lane.old conn.old (C.counted counts.old)) (intake lane.new conn.new (C.counted counts.new)) true (Some body.now) says_close result }
+    ensures { Responds (Submits ShardPort.takes ShardPort.refuses) (Writer.contents writer.old) (Writer.contents writer.new) (intake lane.old conn.old (Ledger.counted counts.old)) (intake lane.new conn.new (Ledger.counted counts.new)) true (Some body.now) says_close result }
 {
     match gunzip(lent.alloc, body, BODY_LIMIT) {
         Ok(text) => submit(
@@ -159,17 +173,24 @@ fn unpack<'l, P: Port<Item>, C: Counter, W: Write, S: HasStopMark, K: Clock>(
 }
 
 /// Serves a body that was read whole, packed by gzip or not; `None`: there was no memory for it.
-fn respond<'l, P: Port<Item>, C: Counter, W: Write, S: HasStopMark, K: Clock>(
-    lent: &Lent<'l, S, K>,
-    lane: &mut Lane<P>,
+fn respond<
+    'l,
+    ShardPort: Port<Item>,
+    Ledger: Counter,
+    Writer: Write,
+    Mark: HasStopMark,
+    Time: Clock,
+>(
+    lent: &Lent<'l, Mark, Time>,
+    lane: &mut Lane<ShardPort>,
     conn: &mut Conn,
-    counts: &mut C,
-    writer: &mut W,
+    counts: &mut Ledger,
+    writer: &mut Writer,
     is_packed: bool,
     body: Option<&[u8]>,
     says_close: bool,
 ) -> (bool, EventFate)
-    ensures { (given : Option (List ℕ)) → Sees body.entry given → Responds (Submits P.takes P.refuses) (W.contents writer.old) (W.contents writer.new) (intake lane.old conn.old (C.counted counts.old)) (intake lane.new conn.new (C.counted counts.new)) is_packed given says_close result }
+    ensures { (given : Option (List ℕ)) → Sees body.entry given → Responds (Submits ShardPort.takes ShardPort.refuses) (Writer.contents writer.old) (Writer.contents writer.new) (intake lane.old conn.old (Ledger.counted counts.old)) (intake lane.new conn.new (Ledger.counted counts.new)) is_packed given says_close result }
 {
     let Some(body) = body else {
         return (true, answer(lent.alloc, writer, &Response::Starved));
@@ -184,16 +205,24 @@ fn respond<'l, P: Port<Item>, C: Counter, W: Write, S: HasStopMark, K: Clock>(
 }
 
 /// Does what the bytes bring next, if they bring anything. The last flag says whether a request was answered.
-fn act<'l, E: Engine, P: Port<Item>, C: Counter, W: Write, S: HasStopMark, K: Clock>(
-    lent: &Lent<'l, S, K>,
-    engine: &mut E,
-    lane: &mut Lane<P>,
+fn act<
+    'l,
+    Parser: Engine,
+    ShardPort: Port<Item>,
+    Ledger: Counter,
+    Writer: Write,
+    Mark: HasStopMark,
+    Time: Clock,
+>(
+    lent: &Lent<'l, Mark, Time>,
+    engine: &mut Parser,
+    lane: &mut Lane<ShardPort>,
     conn: &mut Conn,
-    counts: &mut C,
-    writer: &mut W,
+    counts: &mut Ledger,
+    writer: &mut Writer,
 ) -> Option<(bool, EventFate, bool)>
-    ensures acts { (r : RequestReading) → E.stands engine.old r → Acts E.stands E.awaits (Submits P.takes P.refuses) (W.contents writer.old) (W.contents writer.new) (intake lane.old conn.old (C.counted counts.old)) (intake lane.new conn.new (C.counted counts.new)) r result engine.new }
-    ensures less { IsOpenAfter result → E.left engine.new < E.left engine.old }
+    ensures acts { (r : RequestReading) → Parser.stands engine.old r → Acts Parser.stands Parser.awaits (Submits ShardPort.takes ShardPort.refuses) (Writer.contents writer.old) (Writer.contents writer.new) (intake lane.old conn.old (Ledger.counted counts.old)) (intake lane.new conn.new (Ledger.counted counts.new)) r result engine.new }
+    ensures less { IsOpenAfter result → Parser.left engine.new < Parser.left engine.old }
 {
     match engine.advance() {
         Brought::Nothing => None,
@@ -231,15 +260,23 @@ fn act<'l, E: Engine, P: Port<Item>, C: Counter, W: Write, S: HasStopMark, K: Cl
 }
 
 /// Does all that the bytes bring, and says how the connection ends, if it does, and whether a request was answered.
-pub(crate) fn settle<'l, E: Engine, P: Port<Item>, C: Counter, W: Write, S: HasStopMark, K: Clock>(
-    lent: &Lent<'l, S, K>,
-    engine: &mut E,
-    lane: &mut Lane<P>,
+pub(crate) fn settle<
+    'l,
+    Parser: Engine,
+    ShardPort: Port<Item>,
+    Ledger: Counter,
+    Writer: Write,
+    Mark: HasStopMark,
+    Time: Clock,
+>(
+    lent: &Lent<'l, Mark, Time>,
+    engine: &mut Parser,
+    lane: &mut Lane<ShardPort>,
     conn: &mut Conn,
-    counts: &mut C,
-    writer: &mut W,
+    counts: &mut Ledger,
+    writer: &mut Writer,
 ) -> (Option<ServeEnd>, bool)
-    ensures { (r : RequestReading) → E.stands engine.old r → Settled E.awaits (Submits P.takes P.refuses) (W.contents writer.old) (W.contents writer.new) (intake lane.old conn.old (C.counted counts.old)) (intake lane.new conn.new (C.counted counts.new)) r result engine.new }
+    ensures { (r : RequestReading) → Parser.stands engine.old r → Settled Parser.awaits (Submits ShardPort.takes ShardPort.refuses) (Writer.contents writer.old) (Writer.contents writer.new) (intake lane.old conn.old (Ledger.counted counts.old)) (intake lane.new conn.new (Ledger.counted counts.new)) r result engine.new }
 {
     let mut answered = false;
     while let Some((closes, fate, answers)) = act(lent, engine, lane, conn, counts, writer) {
@@ -252,15 +289,23 @@ pub(crate) fn settle<'l, E: Engine, P: Port<Item>, C: Counter, W: Write, S: HasS
 }
 
 /// The same, where nobody asks whether a request was answered.
-fn settle_to_end<'l, E: Engine, P: Port<Item>, C: Counter, W: Write, S: HasStopMark, K: Clock>(
-    lent: &Lent<'l, S, K>,
-    engine: &mut E,
-    lane: &mut Lane<P>,
+fn settle_to_end<
+    'l,
+    Parser: Engine,
+    ShardPort: Port<Item>,
+    Ledger: Counter,
+    Writer: Write,
+    Mark: HasStopMark,
+    Time: Clock,
+>(
+    lent: &Lent<'l, Mark, Time>,
+    engine: &mut Parser,
+    lane: &mut Lane<ShardPort>,
     conn: &mut Conn,
-    counts: &mut C,
-    writer: &mut W,
+    counts: &mut Ledger,
+    writer: &mut Writer,
 ) -> Option<ServeEnd>
-    ensures { (r : RequestReading) → E.stands engine.old r → SettledTo E.awaits (Submits P.takes P.refuses) (W.contents writer.old) (W.contents writer.new) (intake lane.old conn.old (C.counted counts.old)) (intake lane.new conn.new (C.counted counts.new)) r result engine.new }
+    ensures { (r : RequestReading) → Parser.stands engine.old r → SettledTo Parser.awaits (Submits ShardPort.takes ShardPort.refuses) (Writer.contents writer.old) (Writer.contents writer.new) (intake lane.old conn.old (Ledger.counted counts.old)) (intake lane.new conn.new (Ledger.counted counts.new)) r result engine.new }
 {
     let (end, _) = settle(lent, engine, lane, conn, counts, writer);
     end
@@ -305,24 +350,24 @@ fn ended<E: Engine>(engine: &E) -> ServeEnd
 /// Serves one connection with an engine that has read nothing.
 fn serve_turns<
     'l,
-    E: Engine,
-    P: Port<Item>,
-    C: Counter,
-    R: Source,
-    W: Write,
-    S: HasStopMark,
-    K: Clock,
+    Parser: Engine,
+    ShardPort: Port<Item>,
+    Ledger: Counter,
+    Reader: Source,
+    Writer: Write,
+    Mark: HasStopMark,
+    Time: Clock,
 >(
-    lent: &Lent<'l, S, K>,
-    engine: &mut E,
-    lane: &mut Lane<P>,
+    lent: &Lent<'l, Mark, Time>,
+    engine: &mut Parser,
+    lane: &mut Lane<ShardPort>,
     conn: &mut Conn,
-    counts: &mut C,
-    reader: &mut R,
-    writer: &mut W,
+    counts: &mut Ledger,
+    reader: &mut Reader,
+    writer: &mut Writer,
 ) -> ServeEnd
-    requires { E.awaits engine.old (in_head (R.given reader.old).allowed []) }
-    ensures { Served (Submits P.takes P.refuses) (W.contents writer.old) (W.contents writer.new) (intake lane.old conn.old (C.counted counts.old)) (intake lane.new conn.new (C.counted counts.new)) (R.given reader.old) (R.given reader.new) result }
+    requires { Parser.awaits engine.old (in_head (Reader.given reader.old).allowed []) }
+    ensures { Served (Submits ShardPort.takes ShardPort.refuses) (Writer.contents writer.old) (Writer.contents writer.new) (intake lane.old conn.old (Ledger.counted counts.old)) (intake lane.new conn.new (Ledger.counted counts.new)) (Reader.given reader.old) (Reader.given reader.new) result }
 {
     let mut piece = [0; PIECE_LIMIT];
     let mut row = 0;
@@ -356,17 +401,25 @@ fn serve_turns<
 ///
 /// The moment of a request is asked of the clock once, when its body has been read. It ends as
 /// [`ServeEnd::NoMemory`], with nothing read, where memory for its buffer was refused.
-pub fn serve<'l, P: Port<Item>, C: Counter, R: Source, W: Write, S: HasStopMark, K: Clock>(
-    lent: &Lent<'l, S, K>,
-    lane: &mut Lane<P>,
-    counter: &mut C,
-    reader: &mut R,
-    writer: &mut W,
+pub fn serve<
+    'l,
+    ShardPort: Port<Item>,
+    Ledger: Counter,
+    Reader: Source,
+    Writer: Write,
+    Mark: HasStopMark,
+    Time: Clock,
+>(
+    lent: &Lent<'l, Mark, Time>,
+    lane: &mut Lane<ShardPort>,
+    counter: &mut Ledger,
+    reader: &mut Reader,
+    writer: &mut Writer,
 ) -> ServeEnd
     requires { lane.old.connected < 2 ^ 64 - 1 }
-    ensures { (conn : Conn) × Served (Submits P.takes P.refuses) (W.contents writer.old) (W.contents writer.new)
-        (intake (connected lane.old) (first_conn lane.old) (C.counted counter.old)) (intake lane.new conn (C.counted counter.new))
-        (R.given reader.old) (R.given reader.new) result }
+    ensures { (conn : Conn) × Served (Submits ShardPort.takes ShardPort.refuses) (Writer.contents writer.old) (Writer.contents writer.new)
+        (intake (connected lane.old) (first_conn lane.old) (Ledger.counted counter.old)) (intake lane.new conn (Ledger.counted counter.new))
+        (Reader.given reader.old) (Reader.given reader.new) result }
 {
     let mut conn = lane.connect();
     match Requests::new(lent.alloc, reader.allowed()) {

@@ -68,13 +68,21 @@ impl Exchange {
     }
 
     /// A turn that brought bytes. What is allowed to the client is the same at each turn.
-    pub fn came<'l, 'p, P: Port<Item>, C: Counter, W: Write, S: HasStopMark, K: Clock>(
+    pub fn came<
+        'l,
+        'p,
+        ShardPort: Port<Item>,
+        Ledger: Counter,
+        Writer: Write,
+        Mark: HasStopMark,
+        Time: Clock,
+    >(
         &mut self,
-        lent: &Lent<'l, S, K>,
+        lent: &Lent<'l, Mark, Time>,
         spare: &mut Option<Requests>,
-        lane: &mut Lane<P>,
-        counts: &mut C,
-        writer: &mut W,
+        lane: &mut Lane<ShardPort>,
+        counts: &mut Ledger,
+        writer: &mut Writer,
         arrived: Arrived<'p>,
     ) -> Option<ServeEnd>
         requires piece { (0 < length arrived.piece.now) × (length arrived.piece.now ≤ PIECE_LIMIT) }
@@ -83,7 +91,7 @@ impl Exchange {
         ensures turn { (w : Waiting) → AwaitsBy arrived.entry.allowed Awaits self.old.engine w.reading → self.old.since ≡ w.since
             → (coming : Coming) × (events : List ConnectionEvent) × (next : Waiting) × IsTaken arrived.entry.piece.now coming × IsTurnBy coming w arrived.entry.moment false events next × (next.end ≡ result)
             × (result ≡ None → AwaitsBy arrived.entry.allowed Awaits self.new.engine next.reading × (self.new.since ≡ next.since))
-            × Does (Submits P.takes P.refuses) (W.contents writer.old) (W.contents writer.new) (intake lane.old self.old.conn (C.counted counts.old)) (intake lane.new self.new.conn (C.counted counts.new)) events }
+            × Does (Submits ShardPort.takes ShardPort.refuses) (Writer.contents writer.old) (Writer.contents writer.new) (intake lane.old self.old.conn (Ledger.counted counts.old)) (intake lane.new self.new.conn (Ledger.counted counts.new)) events }
         ensures spare { IfSome spare.new (λ engine. Awaits engine (in_head arrived.entry.allowed [])) }
     {
         let Arrived {
@@ -207,18 +215,26 @@ fn taken(
 }
 
 /// Bytes came to an engine that awaits them: all is done that they bring.
-fn come<'l, E: Engine, P: Port<Item>, C: Counter, W: Write, S: HasStopMark, K: Clock>(
-    lent: &Lent<'l, S, K>,
-    engine: &mut E,
-    lane: &mut Lane<P>,
+fn come<
+    'l,
+    Parser: Engine,
+    ShardPort: Port<Item>,
+    Ledger: Counter,
+    Writer: Write,
+    Mark: HasStopMark,
+    Time: Clock,
+>(
+    lent: &Lent<'l, Mark, Time>,
+    engine: &mut Parser,
+    lane: &mut Lane<ShardPort>,
     conn: &mut Conn,
-    counts: &mut C,
-    writer: &mut W,
+    counts: &mut Ledger,
+    writer: &mut Writer,
     piece: &[u8],
 ) -> (Option<ServeEnd>, bool)
-    requires rests { IsAtRest E.awaits engine.old }
+    requires rests { IsAtRest Parser.awaits engine.old }
     requires fits { length piece.now ≤ PIECE_LIMIT }
-    ensures { (r : RequestReading) → E.awaits engine.old r → Settled E.awaits (Submits P.takes P.refuses) (W.contents writer.old) (W.contents writer.new) (intake lane.old conn.old (C.counted counts.old)) (intake lane.new conn.new (C.counted counts.new)) (grown r piece.now) result engine.new }
+    ensures { (r : RequestReading) → Parser.awaits engine.old r → Settled Parser.awaits (Submits ShardPort.takes ShardPort.refuses) (Writer.contents writer.old) (Writer.contents writer.new) (intake lane.old conn.old (Ledger.counted counts.old)) (intake lane.new conn.new (Ledger.counted counts.new)) (grown r piece.now) result engine.new }
 {
     engine.take(piece);
     settle(lent, engine, lane, conn, counts, writer)

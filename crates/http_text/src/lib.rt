@@ -2,6 +2,19 @@
 //!
 //! `httparse` reads each of them; what is asked of a request beyond its grammar, and in which order, stands in
 //! `specs/Head` and `specs/Fields`. Nothing here reads or writes: `http_lane` does.
+//!
+//! ```
+//! let allowed = Allowed { gzip: true, close: false };
+//! match cut_on(stream, search) {
+//!     Cutting::Whole(length) => match judge(&stream[..length], allowed) {
+//!         HeadVerdict::Post(post) => read_body(post.framing),
+//!         HeadVerdict::Close => close(),
+//!         HeadVerdict::Refused { refusal, is_head } => refuse(refusal, is_head),
+//!     },
+//!     Cutting::Waits(search) => read_on(search),
+//!     Cutting::TooLong => refuse(RequestRefusal::HeadTooLarge, false),
+//! }
+//! ```
 #![tactic(auto)]
 
 mod allowed;

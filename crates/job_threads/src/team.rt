@@ -39,27 +39,30 @@ struct Handles<'s, J: Job, K: Job, L: Job> {
 ///
 /// `Err` has all jobs as they were: there was no memory, or a thread couldn't be started. Then none has worked.
 pub fn run_team<
-    J: Job + Send + Drop,
-    K: Job + Send + Drop,
-    L: Job + Send + Drop,
-    M: Job + Drop,
-    R: Threads + Wait + Sync,
+    First: Job + Send + Drop,
+    Second: Job + Send + Drop,
+    Third: Job + Send + Drop,
+    Last: Job + Drop,
+    Runtime: Threads + Wait + Sync,
 >(
-    rt: &R,
+    rt: &Runtime,
     alloc: Global,
-    team: Team<J, K, L>,
-    main: M,
-) -> Result<(Team<J::Left, K::Left, L::Left>, M::Left), (Team<J, K, L>, M)>
+    team: Team<First, Second, Third>,
+    main: Last,
+) -> Result<
+    (Team<First::Left, Second::Left, Third::Left>, Last::Left),
+    (Team<First, Second, Third>, Last),
+>
 where
-    J::Left: Send,
-    K::Left: Send,
-    L::Left: Send,
-    requires team { All J.ready team.first.items × K.ready team.second × All L.ready team.third.items }
-    requires main { M.ready main }
-    ensures first { IfOk result (λ left. HaveDone J.did team.first.items left.0.first.items) }
-    ensures second { IfOk result (λ left. K.did team.second left.0.second) }
-    ensures third { IfOk result (λ left. HaveDone L.did team.third.items left.0.third.items) }
-    ensures main { IfOk result (λ left. M.did main left.1) }
+    First::Left: Send,
+    Second::Left: Send,
+    Third::Left: Send,
+    requires team { All First.ready team.first.items × Second.ready team.second × All Third.ready team.third.items }
+    requires main { Last.ready main }
+    ensures first { IfOk result (λ left. HaveDone First.did team.first.items left.0.first.items) }
+    ensures second { IfOk result (λ left. Second.did team.second left.0.second) }
+    ensures third { IfOk result (λ left. HaveDone Third.did team.third.items left.0.third.items) }
+    ensures main { IfOk result (λ left. Last.did main left.1) }
     ensures counts { IfOk result (λ left. (vec_len left.0.first ≡ vec_len team.first) × (vec_len left.0.third ≡ vec_len team.third)) }
     ensures back { IfErr result (λ back. IsTeam team back.0 × (back.1 ≡ main)) }
 {
@@ -71,11 +74,14 @@ where
     thread::scope(
         thread::scope_env(),
         rt,
-        |scope| -> Result<(Team<J::Left, K::Left, L::Left>, M::Left), (Team<J, K, L>, M)>
-            requires ready { All J.ready team.first.items × K.ready team.second × All L.ready team.third.items × M.ready main }
+        |scope| -> Result<
+            (Team<First::Left, Second::Left, Third::Left>, Last::Left),
+            (Team<First, Second, Third>, Last),
+        >
+            requires ready { All First.ready team.first.items × Second.ready team.second × All Third.ready team.third.items × Last.ready main }
             requires first_room { (rooms.first.items ≡ []) × (vec_len team.first ≤ vec_capacity rooms.first) }
             requires third_room { (rooms.third.items ≡ []) × (vec_len team.third ≤ vec_capacity rooms.third) }
-            ensures did { IfOk result (λ left. TeamDid J.did K.did L.did team left.0 × M.did main left.1) }
+            ensures did { IfOk result (λ left. TeamDid First.did Second.did Third.did team left.0 × Last.did main left.1) }
             ensures counts { IfOk result (λ left. (vec_len left.0.first ≡ vec_len team.first) × (vec_len left.0.third ≡ vec_len team.third)) }
             ensures back { IfErr result (λ back. IsTeam team back.0 × (back.1 ≡ main)) }
         {
@@ -125,22 +131,29 @@ fn tell<'s, R: Wait>(
 }
 
 /// Works, and joins threads that have been told to work.
-fn work_and_join<'s, J: Job + Drop, K: Job + Drop, L: Job + Drop, M: Job, R: Threads>(
-    rt: &R,
+fn work_and_join<
+    's,
+    First: Job + Drop,
+    Second: Job + Drop,
+    Third: Job + Drop,
+    Last: Job,
+    Runtime: Threads,
+>(
+    rt: &Runtime,
     token: &OnceToken<'s, bool>,
-    handles: Handles<'s, J, K, L>,
-    rooms: TeamRooms<J::Left, L::Left>,
-    main: M,
-) -> (Team<J::Left, K::Left, L::Left>, M::Left)
+    handles: Handles<'s, First, Second, Third>,
+    rooms: TeamRooms<First::Left, Third::Left>,
+    main: Last,
+) -> (Team<First::Left, Second::Left, Third::Left>, Last::Left)
     requires yes { token.now.value ≡ true }
     requires words { All (λ h. h.promise.word.now.id ≡ token.now.of) handles.first.handles.items × MatchResult handles.second (λ h. h.promise.word.now.id ≡ token.now.of) (λ _. ⊥) × All (λ h. h.promise.word.now.id ≡ token.now.of) handles.third.handles.items }
     requires first_room { (rooms.first.items ≡ []) × (vec_len handles.first.handles ≤ vec_capacity rooms.first) }
     requires third_room { (rooms.third.items ≡ []) × (vec_len handles.third.handles ≤ vec_capacity rooms.third) }
-    requires main { M.ready main }
-    ensures first { HaveDone J.did (reverse (map (λ h. h.promise.job.value) handles.entry.first.handles.items)) result.0.first.items }
-    ensures second { IfOk handles.entry.second (λ h. K.did h.promise.job.value result.0.second) }
-    ensures third { HaveDone L.did (reverse (map (λ h. h.promise.job.value) handles.entry.third.handles.items)) result.0.third.items }
-    ensures main { M.did main result.1 }
+    requires main { Last.ready main }
+    ensures first { HaveDone First.did (reverse (map (λ h. h.promise.job.value) handles.entry.first.handles.items)) result.0.first.items }
+    ensures second { IfOk handles.entry.second (λ h. Second.did h.promise.job.value result.0.second) }
+    ensures third { HaveDone Third.did (reverse (map (λ h. h.promise.job.value) handles.entry.third.handles.items)) result.0.third.items }
+    ensures main { Last.did main result.1 }
 {
     let main_left = main.work();
     let Handles {
@@ -158,11 +171,11 @@ fn work_and_join<'s, J: Job + Drop, K: Job + Drop, L: Job + Drop, M: Job, R: Thr
 }
 
 /// Joins threads that have been told not to work, and gives the team back.
-fn take_team_back<'s, J: Job + Drop, K: Job + Drop, L: Job + Drop, R: Threads>(
-    rt: &R,
+fn take_team_back<'s, First: Job + Drop, Second: Job + Drop, Third: Job + Drop, Runtime: Threads>(
+    rt: &Runtime,
     token: &OnceToken<'s, bool>,
-    handles: Handles<'s, J, K, L>,
-) -> Team<J, K, L>
+    handles: Handles<'s, First, Second, Third>,
+) -> Team<First, Second, Third>
     requires no { token.now.value ≡ false }
     requires words { All (λ h. h.promise.word.now.id ≡ token.now.of) handles.first.handles.items × IfOk handles.second (λ h. h.promise.word.now.id ≡ token.now.of) × All (λ h. h.promise.word.now.id ≡ token.now.of) handles.third.handles.items }
     requires first_room { vec_len handles.first.jobs + vec_len handles.first.handles ≤ vec_capacity handles.first.jobs }
@@ -189,23 +202,23 @@ fn take_team_back<'s, J: Job + Drop, K: Job + Drop, L: Job + Drop, R: Threads>(
 /// Starts a thread for each job, until one can't be started, or there is no memory for the handles.
 fn start_team<
     's,
-    E,
-    J: Job + Send + Drop + 's,
-    K: Job + Send + Drop + 's,
-    L: Job + Send + Drop + 's,
-    R: Threads + Wait + Sync + 's,
+    Env,
+    First: Job + Send + Drop + 's,
+    Second: Job + Send + Drop + 's,
+    Third: Job + Send + Drop + 's,
+    Runtime: Threads + Wait + Sync + 's,
 >(
-    scope: &Scope<'s, E>,
-    rt: &'s R,
+    scope: &Scope<'s, Env>,
+    rt: &'s Runtime,
     alloc: Global,
     word: &'s OnceLock<bool>,
-    team: Team<J, K, L>,
-) -> (Handles<'s, J, K, L>, Started<'s>)
+    team: Team<First, Second, Third>,
+) -> (Handles<'s, First, Second, Third>, Started<'s>)
 where
-    J::Left: Send,
-    K::Left: Send,
-    L::Left: Send,
-    requires { All J.ready team.first.items × K.ready team.second × All L.ready team.third.items }
+    First::Left: Send,
+    Second::Left: Send,
+    Third::Left: Send,
+    requires { All First.ready team.first.items × Second.ready team.second × All Third.ready team.third.items }
     ensures first { result.0.first.jobs.items ++ reverse (map (λ h. h.promise.job.value) result.0.first.handles.items) ≡ team.first.items }
     ensures second { MatchResult result.0.second (λ h. h.promise.job.value ≡ team.second) (λ job. job ≡ team.second) }
     ensures third { result.0.third.jobs.items ++ reverse (map (λ h. h.promise.job.value) result.0.third.handles.items) ≡ team.third.items }

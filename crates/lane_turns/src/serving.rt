@@ -82,23 +82,23 @@ pub trait Driver {
 }
 
 /// Does what is to be done next. The text is then what is to be sent.
-fn turn<'l, P: Port<Item>, C: Counter, S: HasStopMark, K: Moments>(
-    lent: &Lent<'l, S, K>,
+fn turn<'l, ShardPort: Port<Item>, Ledger: Counter, Mark: HasStopMark, Time: Moments>(
+    lent: &Lent<'l, Mark, Time>,
     allowed: Allowed,
     next: Next,
     moment: u64,
     piece: &[u8],
     table: &mut Slab<Exchange>,
     spare: &mut Option<Requests>,
-    lane: &mut Lane<P>,
-    counts: &mut C,
+    lane: &mut Lane<ShardPort>,
+    counts: &mut Ledger,
     text: &mut Vec<u8>,
 ) -> Done
     requires piece { length piece.now ≡ PIECE_LIMIT }
     requires next { FitsNext next PIECE_LIMIT }
     requires at { AllAwait allowed (get table.old) }
     requires spare { IfSome spare.old (λ engine. Awaits engine (in_head allowed [])) }
-    ensures fits { GoesOn (Submits P.takes P.refuses) allowed (get table.old) (lane_now lane.old (C.counted counts.old)) (get table.new) (lane_now lane.new (C.counted counts.new)) (is_full_done result)
+    ensures fits { GoesOn (Submits ShardPort.takes ShardPort.refuses) allowed (get table.old) (lane_now lane.old (Ledger.counted counts.old)) (get table.new) (lane_now lane.new (Ledger.counted counts.new)) (is_full_done result)
         (λ earlier. AsTold allowed (get table.old) (get table.new) earlier next moment piece.now result text.new.items) }
     ensures spare { IfSome spare.new (λ engine. Awaits engine (in_head allowed [])) }
 {
@@ -181,22 +181,22 @@ fn is_full(done: &Done) -> bool
 /// have passed 2^64-1, and says whether it did. `allowed`: what is allowed to clients.
 pub fn serve_turns<
     'l,
-    D: Driver,
-    P: Port<Item>,
-    C: Counter,
-    S: HasStopMark,
-    K: Moments,
-    R: Wait + Clock,
+    Poller: Driver,
+    ShardPort: Port<Item>,
+    Ledger: Counter,
+    Mark: HasStopMark,
+    Time: Moments,
+    Runtime: Wait + Clock,
 >(
-    rt: &R,
-    lent: &Lent<'l, S, K>,
+    rt: &Runtime,
+    lent: &Lent<'l, Mark, Time>,
     allowed: Allowed,
-    driver: &mut D,
-    lane: &mut Lane<P>,
-    counts: &mut C,
+    driver: &mut Poller,
+    lane: &mut Lane<ShardPort>,
+    counts: &mut Ledger,
 ) -> bool
-    ensures served { ServesTurns (Submits P.takes P.refuses) allowed (lane_now lane.old (C.counted counts.old)) (lane_now lane.new (C.counted counts.new)) result }
-    ensures driven { IsDriven D.asks D.hears (Submits P.takes P.refuses) allowed driver.old (lane_now lane.old (C.counted counts.old)) driver.new (lane_now lane.new (C.counted counts.new)) result }
+    ensures served { ServesTurns (Submits ShardPort.takes ShardPort.refuses) allowed (lane_now lane.old (Ledger.counted counts.old)) (lane_now lane.new (Ledger.counted counts.new)) result }
+    ensures driven { IsDriven Poller.asks Poller.hears (Submits ShardPort.takes ShardPort.refuses) allowed driver.old (lane_now lane.old (Ledger.counted counts.old)) driver.new (lane_now lane.new (Ledger.counted counts.new)) result }
 {
     let mut table = Slab::new(lent.alloc);
     let mut spare = None;

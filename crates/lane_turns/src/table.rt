@@ -20,22 +20,30 @@ use slab::Slab;
 use std::io::Write;
 
 /// The connection at this key has a turn that brought bytes. Where that ends it, it is open no more.
-pub(crate) fn came<'l, 'p, P: Port<Item>, C: Counter, W: Write, S: HasStopMark, K: Clock>(
-    lent: &Lent<'l, S, K>,
+pub(crate) fn came<
+    'l,
+    'p,
+    ShardPort: Port<Item>,
+    Ledger: Counter,
+    Writer: Write,
+    Mark: HasStopMark,
+    Time: Clock,
+>(
+    lent: &Lent<'l, Mark, Time>,
     open: &mut Slab<Exchange>,
     key: usize,
     spare: &mut Option<Requests>,
-    lane: &mut Lane<P>,
-    counts: &mut C,
-    writer: &mut W,
+    lane: &mut Lane<ShardPort>,
+    counts: &mut Ledger,
+    writer: &mut Writer,
     arrived: Arrived<'p>,
 ) -> Option<ServeEnd>
     requires piece { (0 < length arrived.piece.now) × (length arrived.piece.now ≤ PIECE_LIMIT) }
     requires open { ContainsKey «open».old key }
     requires at { (x : Exchange) → get «open».old key ≡ Some x → (w : Waiting) × AwaitsBy arrived.allowed Awaits x.engine w.reading }
     requires spare { IfSome spare.old (λ engine. Awaits engine (in_head arrived.allowed [])) }
-    ensures fits { GoesOn (Submits P.takes P.refuses) arrived.entry.allowed (get «open».old) (lane_now lane.old (C.counted counts.old)) (get «open».new) (lane_now lane.new (C.counted counts.new)) (is_full_end result)
-        (TurnAt arrived.entry.allowed (get «open».old) (get «open».new) key arrived.entry.moment AnyOne (IsTaken arrived.entry.piece.now) (Appends (W.contents writer.old) (W.contents writer.new)) result) }
+    ensures fits { GoesOn (Submits ShardPort.takes ShardPort.refuses) arrived.entry.allowed (get «open».old) (lane_now lane.old (Ledger.counted counts.old)) (get «open».new) (lane_now lane.new (Ledger.counted counts.new)) (is_full_end result)
+        (TurnAt arrived.entry.allowed (get «open».old) (get «open».new) key arrived.entry.moment AnyOne (IsTaken arrived.entry.piece.now) (Appends (Writer.contents writer.old) (Writer.contents writer.new)) result) }
     ensures others { (other : ℕ) → other ≢ key → get «open».new other ≡ get «open».old other }
     ensures spare { IfSome spare.new (λ engine. Awaits engine (in_head arrived.entry.allowed [])) }
 {
@@ -60,18 +68,25 @@ pub enum Leaving {
 }
 
 /// The connection at this key has a turn that brought nothing. Where that ends it, it is open no more.
-pub(crate) fn waited<'l, P: Port<Item>, C: Counter, W: Write, S: HasStopMark, K: Clock>(
-    lent: &Lent<'l, S, K>,
+pub(crate) fn waited<
+    'l,
+    ShardPort: Port<Item>,
+    Ledger: Counter,
+    Writer: Write,
+    Mark: HasStopMark,
+    Time: Clock,
+>(
+    lent: &Lent<'l, Mark, Time>,
     open: &mut Slab<Exchange>,
     key: usize,
-    lane: &Lane<P>,
-    counts: &C,
-    writer: &mut W,
+    lane: &Lane<ShardPort>,
+    counts: &Ledger,
+    writer: &mut Writer,
     moment: u64,
 ) -> Option<ServeEnd>
     requires { ContainsKey «open».old key }
-    ensures fits { (allowed : Allowed) → GoesOn (Submits P.takes P.refuses) allowed (get «open».old) (lane_now lane.now (C.counted counts.now)) (get «open».new) (lane_now lane.now (C.counted counts.now)) (is_full_end result)
-        (TurnAt allowed (get «open».old) (get «open».new) key moment AnyOne (λ coming. coming ≡ nothing) (Appends (W.contents writer.old) (W.contents writer.new)) result) }
+    ensures fits { (allowed : Allowed) → GoesOn (Submits ShardPort.takes ShardPort.refuses) allowed (get «open».old) (lane_now lane.now (Ledger.counted counts.now)) (get «open».new) (lane_now lane.now (Ledger.counted counts.now)) (is_full_end result)
+        (TurnAt allowed (get «open».old) (get «open».new) key moment AnyOne (λ coming. coming ≡ nothing) (Appends (Writer.contents writer.old) (Writer.contents writer.new)) result) }
     ensures others { (other : ℕ) → other ≢ key → get «open».new other ≡ get «open».old other }
 {
     let exchange = open.remove(key);

@@ -26,22 +26,22 @@ pub trait LaneServer {
     fn serve_all<
         'l,
         'r,
-        C: Room,
-        K: Counter,
-        G: Gate,
-        S: HasStopMark,
-        M: MomentClock,
-        R: Wait + Clock,
+        QueueRoom: Room,
+        Ledger: Counter,
+        Observer: Gate,
+        Mark: HasStopMark,
+        Time: MomentClock,
+        Runtime: Wait + Clock,
     >(
         &mut self,
-        rt: &'r R,
-        lent: &Lent<'l, S, M>,
+        rt: &'r Runtime,
+        lent: &Lent<'l, Mark, Time>,
         number: u16,
-        lane: &mut Lane<SenderPort<'r, Item, C, R>>,
-        counter: &mut K,
-        gate: &G,
+        lane: &mut Lane<SenderPort<'r, Item, QueueRoom, Runtime>>,
+        counter: &mut Ledger,
+        gate: &Observer,
     ) -> bool
-        ensures served { serves C.capacity self.old (lane_at lane.old (K.counted counter.old)) self.new (lane_at lane.new (K.counted counter.new)) result }
+        ensures served { serves QueueRoom.capacity self.old (lane_at lane.old (Ledger.counted counter.old)) self.new (lane_at lane.new (Ledger.counted counter.new)) result }
         ensures same_queues { queues lane.new.ports ≡ queues lane.old.ports };
 }
 
@@ -59,20 +59,20 @@ impl<F: Acceptor> LaneServer for OneByOne<F> {
     fn serve_all<
         'l,
         'r,
-        C: Room,
-        K: Counter,
-        G: Gate,
-        S: HasStopMark,
-        M: MomentClock,
-        R: Wait + Clock,
+        QueueRoom: Room,
+        Ledger: Counter,
+        Observer: Gate,
+        Mark: HasStopMark,
+        Time: MomentClock,
+        Runtime: Wait + Clock,
     >(
         &mut self,
-        rt: &'r R,
-        lent: &Lent<'l, S, M>,
+        rt: &'r Runtime,
+        lent: &Lent<'l, Mark, Time>,
         number: u16,
-        lane: &mut Lane<SenderPort<'r, Item, C, R>>,
-        counter: &mut K,
-        gate: &G,
+        lane: &mut Lane<SenderPort<'r, Item, QueueRoom, Runtime>>,
+        counter: &mut Ledger,
+        gate: &Observer,
     ) -> bool {
         serve_all(rt, lent, number, lane, &mut self.acceptor, counter, gate)
     }
@@ -94,20 +94,20 @@ impl<D: Driver> LaneServer for ByTurns<D> {
     fn serve_all<
         'l,
         'r,
-        C: Room,
-        K: Counter,
-        G: Gate,
-        S: HasStopMark,
-        M: MomentClock,
-        R: Wait + Clock,
+        QueueRoom: Room,
+        Ledger: Counter,
+        Observer: Gate,
+        Mark: HasStopMark,
+        Time: MomentClock,
+        Runtime: Wait + Clock,
     >(
         &mut self,
-        rt: &'r R,
-        lent: &Lent<'l, S, M>,
+        rt: &'r Runtime,
+        lent: &Lent<'l, Mark, Time>,
         _number: u16,
-        lane: &mut Lane<SenderPort<'r, Item, C, R>>,
-        counter: &mut K,
-        _gate: &G,
+        lane: &mut Lane<SenderPort<'r, Item, QueueRoom, Runtime>>,
+        counter: &mut Ledger,
+        _gate: &Observer,
     ) -> bool {
         serve_turns(rt, lent, self.allowed, &mut self.driver, lane, counter)
     }

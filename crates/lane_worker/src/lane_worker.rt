@@ -37,25 +37,25 @@ pub struct LaneTask<'r, C: Room, R: Wait> {
 pub fn work<
     'l,
     'r,
-    V: LaneServer,
-    C: Room,
-    K: Counter,
-    G: Gate,
-    S: HasStopMark,
-    M: MomentClock,
-    R: Wait + Clock,
+    Server: LaneServer,
+    QueueRoom: Room,
+    Ledger: Counter,
+    Observer: Gate,
+    Mark: HasStopMark,
+    Time: MomentClock,
+    Runtime: Wait + Clock,
 >(
-    rt: &'r R,
-    lent: &Lent<'l, S, M>,
-    task: LaneTask<'r, C, R>,
-    server: &mut V,
-    counter: &mut K,
-    gate: &G,
-) -> LaneThreadEnd<C>
+    rt: &'r Runtime,
+    lent: &Lent<'l, Mark, Time>,
+    task: LaneTask<'r, QueueRoom, Runtime>,
+    server: &mut Server,
+    counter: &mut Ledger,
+    gate: &Observer,
+) -> LaneThreadEnd<QueueRoom>
     requires number { task.lane.number ≡ task.number }
     requires room { (task.room.items ≡ []) × (length task.lane.ports ≤ vec_capacity task.room) }
-    ensures works { (after : LaneAt) × V.serves C.capacity server.old (lane_at task.entry.lane (K.counted counter.old)) server.new after result.is_full
-        × (after.counted ≡ K.counted counter.new)
+    ensures works { (after : LaneAt) × Server.serves QueueRoom.capacity server.old (lane_at task.entry.lane (Ledger.counted counter.old)) server.new after result.is_full
+        × (after.counted ≡ Ledger.counted counter.new)
         × (result.senders.items ≡ map (with_end task.entry.number) after.lane.ports) }
     ensures same_queues { queues result.senders.items ≡ queues task.entry.lane.ports }
 {
@@ -94,24 +94,24 @@ fn end_all<'r, C: Room, R: Wait + Clock>(
 pub(crate) fn serve_all<
     'l,
     'r,
-    F: Acceptor,
-    C: Room,
-    K: Counter,
-    G: Gate,
-    S: HasStopMark,
-    M: MomentClock,
-    R: Wait + Clock,
+    Listener: Acceptor,
+    QueueRoom: Room,
+    Ledger: Counter,
+    Observer: Gate,
+    Mark: HasStopMark,
+    Time: MomentClock,
+    Runtime: Wait + Clock,
 >(
-    rt: &R,
-    lent: &Lent<'l, S, M>,
+    rt: &Runtime,
+    lent: &Lent<'l, Mark, Time>,
     number: u16,
-    lane: &mut Lane<SenderPort<'r, Item, C, R>>,
-    acceptor: &mut F,
-    counter: &mut K,
-    gate: &G,
+    lane: &mut Lane<SenderPort<'r, Item, QueueRoom, Runtime>>,
+    acceptor: &mut Listener,
+    counter: &mut Ledger,
+    gate: &Observer,
 ) -> bool
-    ensures served { HasServed F.gives (λ x. connection (F.Reader.given x.0) (F.Writer.contents x.1)) C.capacity
-        acceptor.old (lane_at lane.old (K.counted counter.old)) acceptor.new (lane_at lane.new (K.counted counter.new)) result }
+    ensures served { HasServed Listener.gives (λ x. connection (Listener.Reader.given x.0) (Listener.Writer.contents x.1)) QueueRoom.capacity
+        acceptor.old (lane_at lane.old (Ledger.counted counter.old)) acceptor.new (lane_at lane.new (Ledger.counted counter.new)) result }
     ensures same_queues { queues lane.new.ports ≡ queues lane.old.ports }
 {
     for _ in rt.forever() {
@@ -143,25 +143,25 @@ fn is_overflow(end: &ServeEnd) -> bool
 fn serve_next<
     'l,
     'r,
-    A: Source + Drop,
-    W: Write + Drop,
-    C: Room,
-    K: Counter,
-    G: Gate,
-    S: HasStopMark,
-    M: MomentClock,
-    R: Wait + Clock,
+    Reader: Source + Drop,
+    Writer: Write + Drop,
+    QueueRoom: Room,
+    Ledger: Counter,
+    Observer: Gate,
+    Mark: HasStopMark,
+    Time: MomentClock,
+    Runtime: Wait + Clock,
 >(
-    lent: &Lent<'l, S, M>,
+    lent: &Lent<'l, Mark, Time>,
     number: u16,
-    lane: &mut Lane<SenderPort<'r, Item, C, R>>,
-    counter: &mut K,
-    reader: A,
-    writer: W,
-    gate: &G,
+    lane: &mut Lane<SenderPort<'r, Item, QueueRoom, Runtime>>,
+    counter: &mut Ledger,
+    reader: Reader,
+    writer: Writer,
+    gate: &Observer,
 ) -> ServeEnd
     requires { lane.old.connected < 2 ^ 64 - 1 }
-    ensures served { ServedOne C.capacity (connection (A.given reader) (W.contents writer)) (lane_at lane.old (K.counted counter.old)) (lane_at lane.new (K.counted counter.new)) result }
+    ensures served { ServedOne QueueRoom.capacity (connection (Reader.given reader) (Writer.contents writer)) (lane_at lane.old (Ledger.counted counter.old)) (lane_at lane.new (Ledger.counted counter.new)) result }
     ensures same_queues { queues lane.new.ports ≡ queues lane.old.ports }
 {
     let mut reader = reader;

@@ -7,4 +7,3 @@ pub mod JobsSent
 pub mod SinkWent
 pub mod Told
 pub mod Worked
-mod Rows

@@ -16,11 +16,11 @@ use std::time::Clock;
 
 /// What the exporter is given.
 #[derive(Drop)]
-pub struct ExporterJob<'s, S: Sink, D: Room, G, R: Wait> {
-    pub rt: &'s R,
-    pub exporter: Exporter<S>,
-    pub receiver: Receiver<Shipment, D>,
-    pub gate: &'s G,
+pub struct ExporterJob<'s, Output: Sink, ExportRoom: Room, Observer, Runtime: Wait> {
+    pub rt: &'s Runtime,
+    pub exporter: Exporter<Output>,
+    pub receiver: Receiver<Shipment, ExportRoom>,
+    pub gate: &'s Observer,
 }
 
 /// What the exporter leaves.
@@ -36,14 +36,15 @@ pub struct ExporterLeft<S: Sink, D: Room> {
     pub is_full: bool,
 }
 
-impl<'s, S: Sink + Drop, D: Room, G: Gate, R: Wait + Clock> Job for ExporterJob<'s, S, D, G, R> {
+impl<'s, Output: Sink + Drop, ExportRoom: Room, Observer: Gate, Runtime: Wait + Clock> Job
+    for ExporterJob<'s, Output, ExportRoom, Observer, Runtime> {
     ghost use Rattle.std.specs.Prelude.{◌≡◌, ◌<◌, [], All, false};
     ghost use Rattle.std.specs.List.{list_any};
     ghost use Rattle.lane_queue.specs.Ends.{IsNew};
     ghost use Rattle.run_weave.specs.Jobs.{ExporterDid};
     ghost use Rattle.run_weave.specs.Workers.{zeros};
 
-    type Left = ExporterLeft<S, D>;
+    type Left = ExporterLeft<Output, ExportRoom>;
 
     ghost ready = { λ job. (job.exporter.batch ≡ []) × (0 < job.exporter.size) × (list_any (λ ended. ended) job.exporter.ends ≡ false)
         × All IsNew job.receiver.ends };
@@ -51,7 +52,7 @@ impl<'s, S: Sink + Drop, D: Room, G: Gate, R: Wait + Clock> Job for ExporterJob<
     ghost did = { λ job left. ExporterDid job.exporter job.receiver zeros
         left.exporter left.receiver left.counts left.is_full };
 
-    fn work(self) -> ExporterLeft<S, D> {
+    fn work(self) -> ExporterLeft<Output, ExportRoom> {
         let ExporterJob {
             rt,
             exporter,

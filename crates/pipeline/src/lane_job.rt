@@ -16,16 +16,16 @@ use std::time::Clock;
 
 /// What a lane's thread is given. Its lane has the lane's number, and `room` has room for the lane's ends.
 #[derive(Drop)]
-pub struct LaneJob<'s, V, C: Room, G, P, M, R: Wait> {
-    pub rt: &'s R,
+pub struct LaneJob<'s, Server, QueueRoom: Room, Observer, Mark, Time, Runtime: Wait> {
+    pub rt: &'s Runtime,
     pub alloc: Global,
     pub number: u16,
-    pub acceptor: V,
-    pub lane: Lane<SenderPort<'s, Item, C, R>>,
-    pub room: Vec<Sender<Item, C>>,
-    pub gate: &'s G,
-    pub stop: &'s P,
-    pub clock: &'s M,
+    pub acceptor: Server,
+    pub lane: Lane<SenderPort<'s, Item, QueueRoom, Runtime>>,
+    pub room: Vec<Sender<Item, QueueRoom>>,
+    pub gate: &'s Observer,
+    pub stop: &'s Mark,
+    pub clock: &'s Time,
 }
 
 /// What a lane's thread leaves.
@@ -41,25 +41,25 @@ pub struct LaneLeft<C: Room> {
 
 impl<
     's,
-    V: LaneServer + Drop,
-    C: Room,
-    G: Gate,
-    P: HasStopMark,
-    M: MomentClock,
-    R: Wait + Clock,
-> Job for LaneJob<'s, V, C, G, P, M, R> {
+    Server: LaneServer + Drop,
+    QueueRoom: Room,
+    Observer: Gate,
+    Mark: HasStopMark,
+    Time: MomentClock,
+    Runtime: Wait + Clock,
+> Job for LaneJob<'s, Server, QueueRoom, Observer, Mark, Time, Runtime> {
     ghost use Rattle.std.specs.Prelude.{◌≡◌, ◌≤◌, [], length, vec_capacity};
     ghost use Rattle.run_weave.specs.Jobs.{LaneDid};
     ghost use Rattle.run_weave.specs.Workers.{zeros};
 
-    type Left = LaneLeft<C>;
+    type Left = LaneLeft<QueueRoom>;
 
     ghost ready = { λ job. (job.lane.number ≡ job.number) × (job.room.items ≡ []) × (length job.lane.ports ≤ vec_capacity job.room) };
 
-    ghost did = { λ job left. LaneDid V.serves C.capacity
+    ghost did = { λ job left. LaneDid Server.serves QueueRoom.capacity
         job.number job.acceptor job.lane zeros left.senders.items left.counts left.is_full };
 
-    fn work(self) -> LaneLeft<C> {
+    fn work(self) -> LaneLeft<QueueRoom> {
         let LaneJob {
             rt,
             alloc,

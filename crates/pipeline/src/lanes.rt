@@ -13,22 +13,22 @@ use std::sync::Wait;
 
 /// What the lanes' threads are given, and the list of the acceptors, which is empty and has room for them again.
 #[derive(Drop)]
-pub struct LaneJobs<'s, F, C: Room, G, P, M, R: Wait> {
-    pub jobs: Vec<LaneJob<'s, F, C, G, P, M, R>>,
-    pub acceptors: Vec<F>,
+pub struct LaneJobs<'s, Server, QueueRoom: Room, Observer, Mark, Time, Runtime: Wait> {
+    pub jobs: Vec<LaneJob<'s, Server, QueueRoom, Observer, Mark, Time, Runtime>>,
+    pub acceptors: Vec<Server>,
 }
 
 /// What the lanes' threads are given: for each acceptor, in their order, a lane of its number over its ends.
 /// `asks_again`: a request for whose spans a queue lacks room is to be sent again. One that comes while the gate's
 /// brake is on is in any case. `keeps_doubles`: the lanes keep doubles. Where there is no memory the acceptors come
 /// back.
-pub fn lane_jobs<'s, F: Drop, C: Room, G: Gate, P, M, R: Wait>(
-    lent: &ThreadContext<'s, G, P, M, R>,
+pub fn lane_jobs<'s, Server: Drop, QueueRoom: Room, Observer: Gate, Mark, Time, Runtime: Wait>(
+    lent: &ThreadContext<'s, Observer, Mark, Time, Runtime>,
     asks_again: bool,
     keeps_doubles: bool,
-    acceptors: Vec<F>,
-    columns: Vec<Vec<Sender<Item, C>>>,
-) -> Result<LaneJobs<'s, F, C, G, P, M, R>, Vec<F>>
+    acceptors: Vec<Server>,
+    columns: Vec<Vec<Sender<Item, QueueRoom>>>,
+) -> Result<LaneJobs<'s, Server, QueueRoom, Observer, Mark, Time, Runtime>, Vec<Server>>
     requires few { vec_len acceptors < 65536 }
     requires columns { (vec_len columns ≡ vec_len acceptors) × All (λ c. 0 < length c.items) columns.items }
     ensures count { IfOk result (λ made. vec_len made.jobs ≡ vec_len acceptors) }
@@ -67,10 +67,10 @@ pub fn lane_jobs<'s, F: Drop, C: Room, G: Gate, P, M, R: Wait>(
 }
 
 /// These acceptors, and then those of jobs that nobody began; the list has room for them.
-pub fn acceptors_of<'s, F: Drop, C: Room, G, P, M, R: Wait>(
-    jobs: Vec<LaneJob<'s, F, C, G, P, M, R>>,
-    acceptors: Vec<F>,
-) -> Vec<F>
+pub fn acceptors_of<'s, Server: Drop, QueueRoom: Room, Observer, Mark, Time, Runtime: Wait>(
+    jobs: Vec<LaneJob<'s, Server, QueueRoom, Observer, Mark, Time, Runtime>>,
+    acceptors: Vec<Server>,
+) -> Vec<Server>
     requires { vec_len acceptors + vec_len jobs ≤ vec_capacity acceptors }
     ensures { result.items ≡ acceptors.items ++ map (λ job. job.acceptor) jobs.entry.items }
 {
@@ -83,15 +83,15 @@ pub fn acceptors_of<'s, F: Drop, C: Room, G, P, M, R: Wait>(
 }
 
 /// What a lane's thread is given; `lists` has room for its ports, and for their ends.
-fn lane_job<'s, F: Drop, C: Room, G: Gate, P, M, R: Wait>(
-    lent: &ThreadContext<'s, G, P, M, R>,
+fn lane_job<'s, Server: Drop, QueueRoom: Room, Observer: Gate, Mark, Time, Runtime: Wait>(
+    lent: &ThreadContext<'s, Observer, Mark, Time, Runtime>,
     asks_again: bool,
     keeps_doubles: bool,
     number: u16,
-    acceptor: F,
-    senders: Vec<Sender<Item, C>>,
-    lists: LaneLists<'s, C, R>,
-) -> LaneJob<'s, F, C, G, P, M, R>
+    acceptor: Server,
+    senders: Vec<Sender<Item, QueueRoom>>,
+    lists: LaneLists<'s, QueueRoom, Runtime>,
+) -> LaneJob<'s, Server, QueueRoom, Observer, Mark, Time, Runtime>
     requires some { 0 < length senders.items }
     requires ports { (lists.ports.items ≡ []) × (length senders.items ≤ vec_capacity lists.ports) }
     requires room { (lists.room.items ≡ []) × (length senders.items ≤ vec_capacity lists.room) }

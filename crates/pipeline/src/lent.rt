@@ -4,26 +4,26 @@ use trace_hash::TraceHashing;
 
 /// What all threads of a run are lent.
 #[derive(Drop)]
-pub struct ThreadContext<'s, G, P, M, R> {
-    pub rt: &'s R,
+pub struct ThreadContext<'s, Observer, Mark, Time, Runtime> {
+    pub rt: &'s Runtime,
     pub alloc: Global,
     /// How every shard hashes trace ids.
     pub hashing: TraceHashing,
-    pub gate: &'s G,
-    pub stop: &'s P,
-    pub clock: &'s M,
+    pub gate: &'s Observer,
+    pub stop: &'s Mark,
+    pub clock: &'s Time,
 }
 
 /// What a run is lent by its caller.
 #[derive(Drop)]
-pub struct RunContext<'s, G, P, M, R> {
+pub struct RunContext<'s, Observer, Mark, Time, Runtime> {
     /// What starts threads and lets them wait, and tells the time.
-    pub rt: &'s R,
+    pub rt: &'s Runtime,
     pub alloc: Global,
     /// Hears what lanes and shards reach, and what they count.
-    pub gate: &'s G,
+    pub gate: &'s Observer,
     /// The mark that asks the run to end.
-    pub stop: &'s P,
+    pub stop: &'s Mark,
     /// The moments of requests.
-    pub clock: &'s M,
+    pub clock: &'s Time,
 }

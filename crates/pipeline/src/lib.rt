@@ -17,6 +17,7 @@ mod joining;
 mod lane_job;
 mod lanes;
 mod lent;
+mod machine;
 mod making;
 mod running;
 mod shard_job;
@@ -26,4 +27,5 @@ mod ticker_job;
 
 pub use fault::ServeFault;
 pub use lent::RunContext;
+pub use machine::Machine;
 pub use running::{run, run_by_turns};

@@ -24,15 +24,29 @@ use tsc_config::Config;
 
 /// What a run needs beside its exporter.
 #[derive(Drop)]
-pub struct Made<'s, F, T, C: Room, D: Room, G, P, M, R: Wait> {
+pub struct Made<
+    's,
+    Server,
+    TickSource,
+    QueueRoom: Room,
+    ExportRoom: Room,
+    Observer,
+    Mark,
+    Time,
+    Runtime: Wait,
+> {
     /// What the threads are given.
-    pub team: Team<LaneJob<'s, F, C, G, P, M, R>, TickerJob<'s, T, C, R>, ShardJob<'s, C, D, G, R>>,
+    pub team: Team<
+        LaneJob<'s, Server, QueueRoom, Observer, Mark, Time, Runtime>,
+        TickerJob<'s, TickSource, QueueRoom, Runtime>,
+        ShardJob<'s, QueueRoom, ExportRoom, Observer, Runtime>,
+    >,
     /// The ends at which the exporter pops, by shard.
-    pub shipments: Receiver<Shipment, D>,
+    pub shipments: Receiver<Shipment, ExportRoom>,
     /// Room for what the threads leave.
-    pub rooms: RunRooms<'s, C, D, R>,
+    pub rooms: RunRooms<'s, QueueRoom, ExportRoom, Runtime>,
     /// Room for the acceptors, where they come back.
-    pub acceptors: Vec<F>,
+    pub acceptors: Vec<Server>,
 }
 
 /// Room for what the threads of a run leave, and the lists with which its queues are joined again.
@@ -49,13 +63,26 @@ pub struct RunRooms<'s, C: Room, D: Room, R: Wait> {
 }
 
 /// Makes all that the threads of a run are given. Where there is no memory the acceptors and the ticks come back.
-pub fn make<'s, F: Drop, T: Drop, C: Room, D: Room, G: Gate, P, M, R: Wait>(
-    lent: &ThreadContext<'s, G, P, M, R>,
+pub fn make<
+    's,
+    Server: Drop,
+    TickSource: Drop,
+    QueueRoom: Room,
+    ExportRoom: Room,
+    Observer: Gate,
+    Mark,
+    Time,
+    Runtime: Wait,
+>(
+    lent: &ThreadContext<'s, Observer, Mark, Time, Runtime>,
     config: &Config,
-    acceptors: Vec<F>,
-    ticks: T,
-) -> Result<Made<'s, F, T, C, D, G, P, M, R>, (Vec<F>, T)>
-    requires runs { CanRun config.now C.capacity D.capacity }
+    acceptors: Vec<Server>,
+    ticks: TickSource,
+) -> Result<
+    Made<'s, Server, TickSource, QueueRoom, ExportRoom, Observer, Mark, Time, Runtime>,
+    (Vec<Server>, TickSource),
+>
+    requires runs { CanRun config.now QueueRoom.capacity ExportRoom.capacity }
     requires acceptors { vec_len acceptors ≡ config.now.lanes }
     ensures lanes { IfOk result (λ made. (vec_len made.team.first ≡ config.now.lanes)
         × All (λ job. (job.lane.number ≡ job.number) × (job.room.items ≡ []) × (length job.lane.ports ≤ vec_capacity job.room)) made.team.first.items) }
@@ -78,7 +105,7 @@ pub fn make<'s, F: Drop, T: Drop, C: Room, D: Room, G: Gate, P, M, R: Wait>(
     ensures acceptors_room { IfOk result (λ made. (made.acceptors.items ≡ []) × (config.now.lanes ≤ vec_capacity made.acceptors)) }
     ensures back { IfErr result (λ back. (back.0.items ≡ acceptors.items) × (back.1 ≡ ticks)) }
 {
-    let Ok(made) = run_ends::<C, D, R>(lent.rt, lent.alloc, config) else {
+    let Ok(made) = run_ends::<QueueRoom, ExportRoom, Runtime>(lent.rt, lent.alloc, config) else {
         return Err((acceptors, ticks));
     };
     let RunEnds {
@@ -101,21 +128,35 @@ pub fn make<'s, F: Drop, T: Drop, C: Room, D: Room, G: Gate, P, M, R: Wait>(
 
 /// What the threads of a run are given: the lanes, the ticker and the shards; and the list of the acceptors, which is
 /// empty and has room for them again.
-fn team_of<'s, F: Drop, T: Drop, C: Room, D: Room, G: Gate, P, M, R: Wait>(
-    lent: &ThreadContext<'s, G, P, M, R>,
+fn team_of<
+    's,
+    Server: Drop,
+    TickSource: Drop,
+    QueueRoom: Room,
+    ExportRoom: Room,
+    Observer: Gate,
+    Mark,
+    Time,
+    Runtime: Wait,
+>(
+    lent: &ThreadContext<'s, Observer, Mark, Time, Runtime>,
     config: &Config,
-    acceptors: Vec<F>,
-    ticks: T,
-    columns: Vec<Vec<Sender<Item, C>>>,
-    ends: ShardEnds<'s, C, D, R>,
+    acceptors: Vec<Server>,
+    ticks: TickSource,
+    columns: Vec<Vec<Sender<Item, QueueRoom>>>,
+    ends: ShardEnds<'s, QueueRoom, ExportRoom, Runtime>,
 ) -> Result<
     (
-        Team<LaneJob<'s, F, C, G, P, M, R>, TickerJob<'s, T, C, R>, ShardJob<'s, C, D, G, R>>,
-        Vec<F>,
+        Team<
+            LaneJob<'s, Server, QueueRoom, Observer, Mark, Time, Runtime>,
+            TickerJob<'s, TickSource, QueueRoom, Runtime>,
+            ShardJob<'s, QueueRoom, ExportRoom, Observer, Runtime>,
+        >,
+        Vec<Server>,
     ),
-    (Vec<F>, T),
+    (Vec<Server>, TickSource),
 >
-    requires runs { CanRun config.now C.capacity D.capacity }
+    requires runs { CanRun config.now QueueRoom.capacity ExportRoom.capacity }
     requires acceptors { (vec_len acceptors ≡ config.now.lanes) × (vec_len acceptors < 65536) }
     requires columns { (vec_len columns ≡ config.now.lanes + 1) × All (λ c. 0 < length c.items) columns.items }
     requires seats { AreNewSeats (nodes_of config.now) config.now.shards ends.seats.items }

@@ -15,6 +15,7 @@ use crate::gathering::{ThreadCounts, gather_lanes, gather_shards};
 use crate::joining::join_all;
 use crate::lanes::acceptors_of;
 use crate::lent::{RunContext, ThreadContext};
+use crate::machine::Machine;
 use crate::making::{Made, RunRooms, make};
 use drop_ledger::{Report, total};
 use http_lane::{Clock as MomentClock, HasStopMark};
@@ -26,9 +27,6 @@ use shared_budget::asked_seats_may_be_compared;
 use span_exporter::{Exporter, sink_takes_lines};
 use span_sink::{LineSink, Sink, takes_handed_lines};
 use std::marker::Brand;
-use std::random::RandomSource;
-use std::sync::Wait;
-use std::thread::Threads;
 use std::time::Clock;
 use trace_hash::TraceHashing;
 use tsc_config::Config;
@@ -42,28 +40,32 @@ use tsc_config::Config;
 /// handed over; the report has the counts of all threads.
 pub fn run<
     's,
-    F: Acceptor + Send + Drop,
-    T: Ticks + Send + Drop,
-    S: Sink + Drop,
-    G: Gate + Sync,
-    P: HasStopMark + Sync,
-    M: MomentClock + Sync,
-    R: Threads + Wait + Clock + RandomSource + Sync,
+    Listener: Acceptor + Send + Drop,
+    TickSource: Ticks + Send + Drop,
+    Output: Sink + Drop,
+    Observer: Gate + Sync,
+    Mark: HasStopMark + Sync,
+    Time: MomentClock + Sync,
+    Runtime: Machine,
 >(
-    context: &RunContext<'s, G, P, M, R>,
+    context: &RunContext<'s, Observer, Mark, Time, Runtime>,
     config: Config,
-    servers: Vec<OneByOne<F>>,
-    ticks: T,
-    sink: S,
-) -> (S, Result<Report, ServeFault>, Option<(Vec<OneByOne<F>>, T)>)
+    servers: Vec<OneByOne<Listener>>,
+    ticks: TickSource,
+    sink: Output,
+) -> (
+    Output,
+    Result<Report, ServeFault>,
+    Option<(Vec<OneByOne<Listener>>, TickSource)>,
+)
 where
-    F::Reader: Send,
-    F::Writer: Send,
+    Listener::Reader: Send,
+    Listener::Writer: Send,
     requires ranges { CanBegin config }
     requires servers { vec_len servers ≡ config.lanes }
-    requires failures { S.failures sink < 2 ^ 64 - 1 }
-    ensures sink { SinkAnswers (S.taken sink) (S.failures sink) (S.taken result.0) (S.failures result.0) result.1 }
-    ensures ran { RunTells (receives_one_by_one (λ (s : OneByOne F). s.acceptor) F.gives (λ x. connection (F.Reader.given x.0) (F.Writer.contents x.1))) T.gives config servers.items ticks (S.taken sink) (S.failures sink) (S.taken result.0) (S.failures result.0) result.1 }
+    requires failures { Output.failures sink < 2 ^ 64 - 1 }
+    ensures sink { SinkAnswers (Output.taken sink) (Output.failures sink) (Output.taken result.0) (Output.failures result.0) result.1 }
+    ensures ran { RunTells (receives_one_by_one (λ (s : OneByOne Listener). s.acceptor) Listener.gives (λ x. connection (Listener.Reader.given x.0) (Listener.Writer.contents x.1))) TickSource.gives config servers.items ticks (Output.taken sink) (Output.failures sink) (Output.taken result.0) (Output.failures result.0) result.1 }
     ensures begun { is_none result.2 ≡ has_begun result.1 }
     ensures back { IfSome result.2 (λ back. (back.0.items ≡ servers.items) × (back.1 ≡ ticks)) }
 {
@@ -74,25 +76,29 @@ where
 /// each lane.
 pub fn run_by_turns<
     's,
-    D: Driver + Send + Drop,
-    T: Ticks + Send + Drop,
-    S: Sink + Drop,
-    G: Gate + Sync,
-    P: HasStopMark + Sync,
-    M: MomentClock + Sync,
-    R: Threads + Wait + Clock + RandomSource + Sync,
+    Poller: Driver + Send + Drop,
+    TickSource: Ticks + Send + Drop,
+    Output: Sink + Drop,
+    Observer: Gate + Sync,
+    Mark: HasStopMark + Sync,
+    Time: MomentClock + Sync,
+    Runtime: Machine,
 >(
-    context: &RunContext<'s, G, P, M, R>,
+    context: &RunContext<'s, Observer, Mark, Time, Runtime>,
     config: Config,
-    drivers: Vec<ByTurns<D>>,
-    ticks: T,
-    sink: S,
-) -> (S, Result<Report, ServeFault>, Option<(Vec<ByTurns<D>>, T)>)
+    drivers: Vec<ByTurns<Poller>>,
+    ticks: TickSource,
+    sink: Output,
+) -> (
+    Output,
+    Result<Report, ServeFault>,
+    Option<(Vec<ByTurns<Poller>>, TickSource)>,
+)
     requires ranges { CanBegin config }
     requires drivers { vec_len drivers ≡ config.lanes }
-    requires failures { S.failures sink < 2 ^ 64 - 1 }
-    ensures sink { SinkAnswers (S.taken sink) (S.failures sink) (S.taken result.0) (S.failures result.0) result.1 }
-    ensures ran { RunTells (receives_by_turns (λ (s : ByTurns D). s.allowed)) T.gives config drivers.items ticks (S.taken sink) (S.failures sink) (S.taken result.0) (S.failures result.0) result.1 }
+    requires failures { Output.failures sink < 2 ^ 64 - 1 }
+    ensures sink { SinkAnswers (Output.taken sink) (Output.failures sink) (Output.taken result.0) (Output.failures result.0) result.1 }
+    ensures ran { RunTells (receives_by_turns (λ (s : ByTurns Poller). s.allowed)) TickSource.gives config drivers.items ticks (Output.taken sink) (Output.failures sink) (Output.taken result.0) (Output.failures result.0) result.1 }
     ensures begun { is_none result.2 ≡ has_begun result.1 }
     ensures back { IfSome result.2 (λ back. (back.0.items ≡ drivers.items) × (back.1 ≡ ticks)) }
 {
@@ -102,25 +108,29 @@ pub fn run_by_turns<
 /// The same, whatever serves the lanes' connections.
 fn run_servers<
     's,
-    V: LaneServer + Send + Drop,
-    T: Ticks + Send + Drop,
-    S: Sink + Drop,
-    G: Gate + Sync,
-    P: HasStopMark + Sync,
-    M: MomentClock + Sync,
-    R: Threads + Wait + Clock + RandomSource + Sync,
+    Server: LaneServer + Send + Drop,
+    TickSource: Ticks + Send + Drop,
+    Output: Sink + Drop,
+    Observer: Gate + Sync,
+    Mark: HasStopMark + Sync,
+    Time: MomentClock + Sync,
+    Runtime: Machine,
 >(
-    context: &RunContext<'s, G, P, M, R>,
+    context: &RunContext<'s, Observer, Mark, Time, Runtime>,
     config: Config,
-    servers: Vec<V>,
-    ticks: T,
-    sink: S,
-) -> (S, Result<Report, ServeFault>, Option<(Vec<V>, T)>)
+    servers: Vec<Server>,
+    ticks: TickSource,
+    sink: Output,
+) -> (
+    Output,
+    Result<Report, ServeFault>,
+    Option<(Vec<Server>, TickSource)>,
+)
     requires ranges { CanBegin config }
     requires servers { vec_len servers ≡ config.lanes }
-    requires failures { S.failures sink < 2 ^ 64 - 1 }
-    ensures sink { SinkAnswers (S.taken sink) (S.failures sink) (S.taken result.0) (S.failures result.0) result.1 }
-    ensures ran { ServersTell V.serves T.gives config servers.items ticks (S.taken sink) (S.failures sink) (S.taken result.0) (S.failures result.0) result.1 }
+    requires failures { Output.failures sink < 2 ^ 64 - 1 }
+    ensures sink { SinkAnswers (Output.taken sink) (Output.failures sink) (Output.taken result.0) (Output.failures result.0) result.1 }
+    ensures ran { ServersTell Server.serves TickSource.gives config servers.items ticks (Output.taken sink) (Output.failures sink) (Output.taken result.0) (Output.failures result.0) result.1 }
     ensures begun { is_none result.2 ≡ has_begun result.1 }
     ensures back { IfSome result.2 (λ back. (back.0.items ≡ servers.items) × (back.1 ≡ ticks)) }
 {
@@ -140,38 +150,50 @@ fn run_servers<
             );
         }
     };
-    let (exporter, answer, back) = run_in::<V, T, S, G, P, M, Brand, Brand, R>(
-        context, &config, servers, ticks, exporter,
-    );
-    (exporter.end().end(), answer, back)
+    let (exporter, answer, back) = run_in::<
+        Server,
+        TickSource,
+        Output,
+        Observer,
+        Mark,
+        Time,
+        Brand,
+        Brand,
+        Runtime,
+    >(context, &config, servers, ticks, exporter);
+    (exporter.end(), answer, back)
 }
 
 /// Runs the threads, and answers the report. The key by which trace ids are hashed is taken first: where the system has
 /// no random source, nothing is run, and `NoMemory` is answered.
 fn run_in<
     's,
-    V: LaneServer + Send + Drop,
-    T: Ticks + Send + Drop,
-    S: Sink + Drop,
-    G: Gate + Sync,
-    P: HasStopMark + Sync,
-    M: MomentClock + Sync,
-    C: Room + Send + Sync,
-    D: Room + Send + Sync,
-    R: Threads + Wait + Clock + RandomSource + Sync,
+    Server: LaneServer + Send + Drop,
+    TickSource: Ticks + Send + Drop,
+    Output: Sink + Drop,
+    Observer: Gate + Sync,
+    Mark: HasStopMark + Sync,
+    Time: MomentClock + Sync,
+    QueueRoom: Room + Send + Sync,
+    ExportRoom: Room + Send + Sync,
+    Runtime: Machine,
 >(
-    context: &RunContext<'s, G, P, M, R>,
+    context: &RunContext<'s, Observer, Mark, Time, Runtime>,
     config: &Config,
-    servers: Vec<V>,
-    ticks: T,
-    exporter: Exporter<S>,
-) -> (Exporter<S>, Result<Report, ServeFault>, Option<(Vec<V>, T)>)
-    requires runs { CanRun config.now C.capacity D.capacity }
+    servers: Vec<Server>,
+    ticks: TickSource,
+    exporter: Exporter<Output>,
+) -> (
+    Exporter<Output>,
+    Result<Report, ServeFault>,
+    Option<(Vec<Server>, TickSource)>,
+)
+    requires runs { CanRun config.now QueueRoom.capacity ExportRoom.capacity }
     requires servers { vec_len servers ≡ config.now.lanes }
     requires new_exporter { (exporter.batch ≡ []) × (0 < exporter.size) × (list_any (λ ended. ended) exporter.ends ≡ false) × (exporter.sink.is_down ≡ false) }
     requires exporter_is { (exporter.size ≡ config.now.send_batch_size) × (length exporter.ends ≡ config.now.shards) }
     ensures sink { SinkAnswers exporter.sink.taken exporter.sink.failures result.0.sink.taken result.0.sink.failures result.1 }
-    ensures ran { WorkedTells V.serves T.gives config.now servers.items ticks exporter result.0 result.1 }
+    ensures ran { WorkedTells Server.serves TickSource.gives config.now servers.items ticks exporter result.0 result.1 }
     ensures begun { is_none result.2 ≡ has_begun result.1 }
     ensures back { IfSome result.2 (λ back. (back.0.items ≡ servers.items) × (back.1 ≡ ticks)) }
 {
@@ -186,7 +208,18 @@ fn run_in<
         stop: context.stop,
         clock: context.clock,
     };
-    match run_over::<V, T, S, G, P, M, C, D, R>(&lent, config, servers, ticks, exporter) {
+    match run_over::<
+        Server,
+        TickSource,
+        Output,
+        Observer,
+        Mark,
+        Time,
+        QueueRoom,
+        ExportRoom,
+        Runtime,
+    >(&lent, config, servers, ticks, exporter)
+    {
         Ok((exporter, counted)) => {
             let answer = answer_of(&counted, exporter.is_down());
             (exporter, answer, None)
@@ -218,31 +251,41 @@ fn answer_of(counted: &ThreadCounts, is_down: bool) -> Result<Report, ServeFault
 /// memory, or a thread couldn't be started: then none has done anything.
 fn run_over<
     's,
-    V: LaneServer + Send + Drop,
-    T: Ticks + Send + Drop,
-    S: Sink + Drop,
-    G: Gate + Sync,
-    P: HasStopMark + Sync,
-    M: MomentClock + Sync,
-    C: Room + Send + Sync,
-    D: Room + Send + Sync,
-    R: Threads + Wait + Clock + Sync,
+    Server: LaneServer + Send + Drop,
+    TickSource: Ticks + Send + Drop,
+    Output: Sink + Drop,
+    Observer: Gate + Sync,
+    Mark: HasStopMark + Sync,
+    Time: MomentClock + Sync,
+    QueueRoom: Room + Send + Sync,
+    ExportRoom: Room + Send + Sync,
+    Runtime: Machine,
 >(
-    lent: &ThreadContext<'s, G, P, M, R>,
+    lent: &ThreadContext<'s, Observer, Mark, Time, Runtime>,
     config: &Config,
-    servers: Vec<V>,
-    ticks: T,
-    exporter: Exporter<S>,
-) -> Result<(Exporter<S>, ThreadCounts), (Exporter<S>, Vec<V>, T)>
-    requires runs { CanRun config.now C.capacity D.capacity }
+    servers: Vec<Server>,
+    ticks: TickSource,
+    exporter: Exporter<Output>,
+) -> Result<(Exporter<Output>, ThreadCounts), (Exporter<Output>, Vec<Server>, TickSource)>
+    requires runs { CanRun config.now QueueRoom.capacity ExportRoom.capacity }
     requires servers { vec_len servers ≡ config.now.lanes }
     requires new_exporter { (exporter.batch ≡ []) × (0 < exporter.size) × (list_any (λ ended. ended) exporter.ends ≡ false) × (exporter.sink.is_down ≡ false) }
     requires exporter_ends { length exporter.ends ≡ config.now.shards }
-    ensures worked { IfOk result (λ ran. HasWorked V.serves T.gives config.now servers.items ticks exporter ran.0 ran.1.counts.items ran.1.is_full) }
+    ensures worked { IfOk result (λ ran. HasWorked Server.serves TickSource.gives config.now servers.items ticks exporter ran.0 ran.1.counts.items ran.1.is_full) }
     ensures sink { IfOk result (λ ran. SinkWent exporter.sink ran.0.sink) }
     ensures back { IfErr result (λ back. (back.0 ≡ exporter) × (back.1.items ≡ servers.items) × (back.2 ≡ ticks)) }
 {
-    let made = match make::<V, T, C, D, G, P, M, R>(lent, config, servers, ticks) {
+    let made = match make::<
+        Server,
+        TickSource,
+        QueueRoom,
+        ExportRoom,
+        Observer,
+        Mark,
+        Time,
+        Runtime,
+    >(lent, config, servers, ticks)
+    {
         Ok(made) => made,
         Err(back) => {
             let (servers, ticks) = back;

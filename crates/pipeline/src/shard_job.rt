@@ -14,14 +14,14 @@ use std::time::Clock;
 
 /// What a shard's thread is given.
 #[derive(Drop)]
-pub struct ShardJob<'s, C: Room, D: Room, G, R: Wait> {
-    pub rt: &'s R,
+pub struct ShardJob<'s, QueueRoom: Room, ExportRoom: Room, Observer, Runtime: Wait> {
+    pub rt: &'s Runtime,
     pub number: u16,
     pub shard: Shard,
-    pub seat: BudgetSeat<'s, R>,
-    pub receiver: Receiver<Item, C>,
-    pub sender: Sender<Shipment, D>,
-    pub gate: &'s G,
+    pub seat: BudgetSeat<'s, Runtime>,
+    pub receiver: Receiver<Item, QueueRoom>,
+    pub sender: Sender<Shipment, ExportRoom>,
+    pub gate: &'s Observer,
 }
 
 /// What a shard's thread leaves.
@@ -39,20 +39,21 @@ pub struct ShardLeft<'s, C: Room, D: Room, R: Wait> {
     pub is_full: bool,
 }
 
-impl<'s, C: Room, D: Room, G: Gate, R: Wait + Clock> Job for ShardJob<'s, C, D, G, R> {
+impl<'s, QueueRoom: Room, ExportRoom: Room, Observer: Gate, Runtime: Wait + Clock> Job
+    for ShardJob<'s, QueueRoom, ExportRoom, Observer, Runtime> {
     ghost use Rattle.shard_core.specs.Held.{settings};
     ghost use Rattle.run_weave.specs.Jobs.{ShardDid};
     ghost use Rattle.run_weave.specs.Workers.{zeros};
     ghost use Rattle.pipeline.specs.Made.{IsReady};
 
-    type Left = ShardLeft<'s, C, D, R>;
+    type Left = ShardLeft<'s, QueueRoom, ExportRoom, Runtime>;
 
     ghost ready = { λ job. IsReady job.shard job.receiver job.sender job.seat };
 
     ghost did = { λ job left. ShardDid job.number (settings job.shard) job.seat job.receiver job.sender zeros
         left.seat left.receiver left.sender left.counts left.is_full };
 
-    fn work(self) -> ShardLeft<'s, C, D, R> {
+    fn work(self) -> ShardLeft<'s, QueueRoom, ExportRoom, Runtime> {
         let ShardJob {
             rt,
             number,

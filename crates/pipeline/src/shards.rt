@@ -26,11 +26,11 @@ pub struct ShardEnds<'s, C: Room, D: Room, R: Wait> {
 }
 
 /// What the shards' threads are given, in their order: for each a shard, its ends and its seat at the limiter.
-pub fn shard_jobs<'s, C: Room, D: Room, G, P, M, R: Wait>(
-    lent: &ThreadContext<'s, G, P, M, R>,
+pub fn shard_jobs<'s, QueueRoom: Room, ExportRoom: Room, Observer, Mark, Time, Runtime: Wait>(
+    lent: &ThreadContext<'s, Observer, Mark, Time, Runtime>,
     config: &Config,
-    ends: ShardEnds<'s, C, D, R>,
-) -> Result<Vec<ShardJob<'s, C, D, G, R>>, AllocError>
+    ends: ShardEnds<'s, QueueRoom, ExportRoom, Runtime>,
+) -> Result<Vec<ShardJob<'s, QueueRoom, ExportRoom, Observer, Runtime>>, AllocError>
     requires ranges { CanBegin config.now }
     requires seats { (vec_len ends.seats ≡ config.now.shards) × All (λ seat. HasNodes seat config.now.policies) ends.seats.items }
     requires receivers { (vec_len ends.receivers ≡ config.now.shards) × All (λ r. All IsNew r.ends) ends.receivers.items }
@@ -47,13 +47,13 @@ pub fn shard_jobs<'s, C: Room, D: Room, G, P, M, R: Wait>(
 }
 
 /// What the threads of these shards are given; `jobs` has room for it.
-fn jobs_of<'s, C: Room, D: Room, G, P, M, R: Wait>(
-    lent: &ThreadContext<'s, G, P, M, R>,
+fn jobs_of<'s, QueueRoom: Room, ExportRoom: Room, Observer, Mark, Time, Runtime: Wait>(
+    lent: &ThreadContext<'s, Observer, Mark, Time, Runtime>,
     config: &Config,
     shards: Vec<Shard>,
-    ends: ShardEnds<'s, C, D, R>,
-    jobs: Vec<ShardJob<'s, C, D, G, R>>,
-) -> Vec<ShardJob<'s, C, D, G, R>>
+    ends: ShardEnds<'s, QueueRoom, ExportRoom, Runtime>,
+    jobs: Vec<ShardJob<'s, QueueRoom, ExportRoom, Observer, Runtime>>,
+) -> Vec<ShardJob<'s, QueueRoom, ExportRoom, Observer, Runtime>>
     requires few { vec_len shards < 65536 }
     requires shards { All (IsNewShard config.now) shards.items }
     requires room { (jobs.items ≡ []) × (vec_len shards ≤ vec_capacity jobs) }

@@ -8,14 +8,10 @@ use config_faults::ConfigFault;
 use drop_ledger::Report;
 use lane_queue::{Gate, OpenGate};
 use lane_worker::OneByOne;
-use pipeline::{RunContext, ServeFault, run};
+use pipeline::{Machine, RunContext, ServeFault, run};
 use std::alloc::{AllocError, Global};
-use std::random::RandomSource;
-use std::sync::Wait;
 use std::sync::atomic::AtomicBool;
 use std::test::Fail;
-use std::thread::Threads;
-use std::time::Clock;
 use tsc_config::{Config, read};
 
 /// A trace of shard 0 of two, and one of shard 1.
@@ -86,7 +82,7 @@ pub type Came = (
 );
 
 /// What a run comes to over acceptors, one for each lane of the configuration.
-pub fn run_acceptors<G: Gate + Sync, R: Threads + Wait + Clock + RandomSource + Sync>(
+pub fn run_acceptors<G: Gate + Sync, R: Machine>(
     rt: &R,
     alloc: Global,
     config: &str,
@@ -117,7 +113,7 @@ pub fn run_acceptors<G: Gate + Sync, R: Threads + Wait + Clock + RandomSource + 
 }
 
 /// The same of two lanes with one request each.
-fn run_two<G: Gate + Sync, R: Threads + Wait + Clock + RandomSource + Sync>(
+fn run_two<G: Gate + Sync, R: Machine>(
     rt: &R,
     alloc: Global,
     config: &str,
@@ -153,7 +149,7 @@ fn hundred_spans_a_lane(rt: HostRuntime) -> Result<(), Fail> {
 }
 
 /// Runs two lanes with one span each, behind a gate.
-fn two_spans<G: Gate + Sync, R: Threads + Wait + Clock + RandomSource + Sync>(
+fn two_spans<G: Gate + Sync, R: Machine>(
     rt: &R,
     alloc: Global,
     config: &str,

@@ -4,14 +4,10 @@ use crate::memory::{Held, MemoryAcceptor};
 use crate::overlap::{A, Came, Course, request, run_acceptors};
 use drop_ledger::{Count, Report};
 use lane_queue::OpenGate;
-use pipeline::ServeFault;
+use pipeline::{Machine, ServeFault};
 use span_ids::Reason;
 use std::alloc::Global;
-use std::random::RandomSource;
-use std::sync::Wait;
 use std::test::Fail;
-use std::thread::Threads;
-use std::time::Clock;
 
 /// One lane and one shard that keep everything.
 const ALL: &str = "policies = [{ name = \"all\", type = \"always_sample\" }]\n";
@@ -28,7 +24,7 @@ fn spans_in(lines: &[u8]) -> u64 {
 }
 
 /// What a run comes to of one lane with these connections, the last one first.
-fn run_one<R: Threads + Wait + Clock + RandomSource + Sync>(
+fn run_one<R: Machine>(
     rt: &R,
     alloc: Global,
     connections: Vec<Held>,

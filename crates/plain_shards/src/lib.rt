@@ -11,7 +11,7 @@ pub use items::{Event, event_item, span_item};
 pub use lists::{one_policy, policy_on};
 use policy_tree::PolicyKind;
 use rate_budget::Budgets;
-use shard_core::{Shard, ShardSetup};
+use shard_core::{Shard, ShardSetup, Waits};
 use std::alloc::{AllocError, Global};
 use trace_hash::TraceHashing;
 
@@ -34,9 +34,11 @@ pub fn plain_shard(
     let limiter = Budgets::new(alloc, &policies)?;
     let setup = ShardSetup {
         hashing: TraceHashing::Fixed,
-        decision_wait,
-        root_wait: 0,
-        maximum_trace_size: 0,
+        waits: Waits {
+            decision_wait,
+            root_wait: 0,
+            maximum_trace_size: 0,
+        },
         num_traces: traces,
         sampled_cache_size: 0,
         non_sampled_cache_size: 0,

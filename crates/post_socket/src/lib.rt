@@ -3,6 +3,18 @@
 //!
 //! What is sent and read is `post_http`'s, and what is done after each attempt `batch_post`'s. Here is what only the
 //! system can do: to connect, to wait and to tell the time, of which no contract can say more than that it happens.
+//!
+//! ```
+//! let settings = BackendSettings {
+//!     authority: "127.0.0.1:4318",
+//!     path: "/v1/traces",
+//!     fields: &fields,
+//!     timeout: 5_000,
+//!     close_wait: 5_000,
+//! };
+//! let backend = SocketBackend::new(&rt, alloc, settings, &watch);
+//! let batches = BatchSink::new(&rt, rule, backend, spans);
+//! ```
 #![tactic(auto)]
 
 mod backend;

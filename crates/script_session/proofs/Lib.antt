@@ -15,5 +15,4 @@ pub mod Receives
 pub mod Finish
 pub mod Leading
 pub mod CalmReplays
-mod Rows
 pub mod From

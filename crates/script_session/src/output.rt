@@ -52,7 +52,7 @@ impl<S: Sink> Output<S> {
         ensures failures { S.failures result.0 ≡ self.0.sink.failures }
         ensures report { result.1 ≡ self.1 }
     {
-        (self.exporter.end().end(), self.report)
+        (self.exporter.end(), self.report)
     }
 
     /// Whether a write failed.

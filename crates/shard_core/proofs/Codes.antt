@@ -26,6 +26,7 @@ use Rattle.shard_core.specs.declared.answer.Taken.{Taken}
 use Rattle.shard_core.specs.declared.answer.Taken.TheVariants.{Kept, Dropped, Late, Ticked, Ended, Finished}
 use Rattle.decision_cache.specs.Touches.{is_lost}
 use Rattle.journal_theory.proofs.StandingParts.{state_asked, sizes_asked}
+use Rattle.shard_core.specs.declared.setup.Waits.{Waits}
 
 -- ---- what `find` says of the trace's episode
 
@@ -58,12 +59,12 @@ late_loss : (a : Arrival) (v : Verdict) → is_loss (answer_to_late a v) ≡ fal
 late_loss a Sampled = refl
 late_loss a NotSampled = refl
 
-module _ (p : List Policy) (w root_wait maximum : ℕ) (b : Buffer) (c : CacheLists) (cl mk : ℕ) (en : List Bool) (a : Arrival) (t : TraceId) where
+module _ (p : List Policy) (waits : Waits) (b : Buffer) (c : CacheLists) (cl mk : ℕ) (en : List Bool) (a : Arrival) (t : TraceId) where
   abbrev old : Held
-  old = held_of p w root_wait maximum b c cl mk en
+  old = held_of p waits b c cl mk en
 
   abbrev new_of : Buffer → CacheLists → Held
-  new_of d e = held_of p w root_wait maximum d e (max a.moment cl) mk en
+  new_of d e = held_of p waits d e (max a.moment cl) mk en
 
   abbrev s : Settings
   s = settings old
@@ -104,7 +105,7 @@ module _ (p : List Policy) (w root_wait maximum : ℕ) (b : Buffer) (c : CacheLi
 
   -- a shard with other lists
   abbrev sized : Buffer → CacheLists → (num_traces sampled_cache_size non_sampled_cache_size : ℕ) → Held
-  sized d e num_traces sampled_cache_size non_sampled_cache_size = record { policies = p; decision_wait = w; root_wait = root_wait; maximum_trace_size = maximum; num_traces = num_traces; sampled_cache_size = sampled_cache_size; non_sampled_cache_size = non_sampled_cache_size; standing = record (with_caches e st) { episodes = d.episodes } }
+  sized d e num_traces sampled_cache_size non_sampled_cache_size = record { policies = p; waits = waits; num_traces = num_traces; sampled_cache_size = sampled_cache_size; non_sampled_cache_size = non_sampled_cache_size; standing = record (with_caches e st) { episodes = d.episodes } }
 
   at_sizes : (d : Buffer) (e : CacheLists) (m n i j g h : ℕ) → m ≡ n → i ≡ j → g ≡ h → sized d e m i g ≡ sized d e n j h
   at_sizes d e m n i j g h u x y = rw (u, x, y) refl
@@ -214,7 +215,7 @@ module _ (p : List Policy) (w root_wait maximum : ℕ) (b : Buffer) (c : CacheLi
   kept_refusal : (left : Option Evicted) (r : Option Remembered) → is_refusal (Kept left r) ≡ false
   kept_refusal left r = refl
 
-  pub opened : (answer : Taken) (left : Option Evicted) (r : Option Remembered) → answer ≡ Kept left r → state_of (episode_of t b.episodes) ≡ None → asked t c ≡ None → (d : Buffer) (e : CacheLists) → left ≡ leaves b → d ≡ after_opening b (opening_episode t a (max a.moment cl) maximum) → Puts left c r e → TakesSpanOf old a t answer (new_of d e)
+  pub opened : (answer : Taken) (left : Option Evicted) (r : Option Remembered) → answer ≡ Kept left r → state_of (episode_of t b.episodes) ≡ None → asked t c ≡ None → (d : Buffer) (e : CacheLists) → left ≡ leaves b → d ≡ after_opening b (opening_episode t a (max a.moment cl) waits.maximum_trace_size) → Puts left c r e → TakesSpanOf old a t answer (new_of d e)
   opened answer left r x h g d e l z q =
       let n = no_episode (episode_of t b.episodes) h in
       let done = put_done left r e q in

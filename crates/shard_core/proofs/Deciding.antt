@@ -69,7 +69,7 @@ settle_same m w r v q [] h = refl
 settle_same m w r v q (e ∷ es) h = rw (h.0) (ap (λ (r : List Episode). cond (q e) (settled v e ∷ es) (e ∷ r)) (settle_same m w r v q es h.1))
 
 pub due_is : (h : Held) → opened_by h.standing.clock h.standing.episodes ≡ true → find (is_due_at (due_by h).0 (due_by h).1 (due_by h).2) h.standing.episodes ≡ find (is_due_in h) h.standing.episodes
-due_is h o = find_same (is_due_at (due_by h).0 (due_by h).1 (due_by h).2) (is_due_in h) h.standing.episodes (due_each (is_finished h) h.standing.clock h.standing.mark h.decision_wait h.root_wait h.standing.episodes o)
+due_is h o = find_same (is_due_at (due_by h).0 (due_by h).1 (due_by h).2) (is_due_in h) h.standing.episodes (due_each (is_finished h) h.standing.clock h.standing.mark h.waits.decision_wait h.waits.root_wait h.standing.episodes o)
 
 any_found : (q : Episode → Bool) (es : List Episode) → list_any q es ≡ is_some (find q es)
 any_found q [] = refl
@@ -82,7 +82,7 @@ pub nothing_due : (h : Held) → opened_by h.standing.clock h.standing.episodes 
 nothing_due h o f = sym (has_due_is h o) ∙ ap is_some f
 
 -- what a decision does by these answers of the limiter
-module _ {L : Type 0} (asks : L → ℕ → ℕ → ℕ → Bool → L → Type 0) (h : Held) (w : 0 < h.decision_wait) (l : 0 < h.num_traces) (o : opened_by h.standing.clock h.standing.episodes ≡ true) where
+module _ {L : Type 0} (asks : L → ℕ → ℕ → ℕ → Bool → L → Type 0) (h : Held) (w : 0 < h.waits.decision_wait) (l : 0 < h.num_traces) (o : opened_by h.standing.clock h.standing.episodes ≡ true) where
   abbrev Does : (new : Held) → Decided → (before after : L) → (answers : List Bool) → Journal → ℕ → Type 0
   Does new answer before after answers past k = DecidesFirst asks h new answer before after answers past (drop k (due_now (settings h) past))
       × StandsFor new (journal_after answer past answers) (dealt_after answer k) × AddsDecision (settings h) answer answers past k
@@ -94,7 +94,7 @@ module _ {L : Type 0} (asks : L → ℕ → ℕ → ℕ → Bool → L → Type 
       (subst P (sym gone) (refl, refl, refl), s, nothing_adds (settings h) past k)
 
   -- the episode that is found has the greatest size of the settings
-  maximum_is : (past : Journal) (k : ℕ) (e : Episode) → find (is_due_at (due_by h).0 (due_by h).1 (due_by h).2) h.standing.episodes ≡ Some e → StandsFor h past k → e.maximum ≡ h.maximum_trace_size
+  maximum_is : (past : Journal) (k : ℕ) (e : Episode) → find (is_due_at (due_by h).0 (due_by h).1 (due_by h).2) h.standing.episodes ≡ Some e → StandsFor h past k → e.maximum ≡ h.waits.maximum_trace_size
   maximum_is past k e f s = go (reverse (in_buffer (settings h) (notes_dealt (settings h) past k))) (subst P held f)
     where
       p : Episode → Bool
@@ -109,9 +109,9 @@ module _ {L : Type 0} (asks : L → ℕ → ℕ → ℕ → Bool → L → Type 
       held : h.standing.episodes ≡ map of (reverse (in_buffer (settings h) (notes_dealt (settings h) past k)))
       held = ap (λ (st : Standing). st.episodes) s.1
 
-      go : (os : List Opening) → find p (map of os) ≡ Some e → e.maximum ≡ h.maximum_trace_size
+      go : (os : List Opening) → find p (map of os) ≡ Some e → e.maximum ≡ h.waits.maximum_trace_size
       go [] g = absurd (cc g)
-      go (x ∷ os) g = (elim (p (of x)) as (λ b. cond b (Some (of x)) (find p (map of os)) ≡ Some e → e.maximum ≡ h.maximum_trace_size) [
+      go (x ∷ os) g = (elim (p (of x)) as (λ b. cond b (Some (of x)) (find p (map of os)) ≡ Some e → e.maximum ≡ h.waits.maximum_trace_size) [
         | true ↦ λ g. let is : of x ≡ e = cc g in sym (ap (λ (y : Episode). y.maximum) is)
         | false ↦ λ g. go os g
       ]) g
@@ -150,7 +150,7 @@ module _ {L : Type 0} (asks : L → ℕ → ℕ → ℕ → Bool → L → Type 
       let asked = subst (λ (c : ℕ). Q (spans_since past p) c) clocks (subst (λ (spans : List Arrival). Q spans h.standing.clock) same (subst Q' on q)) in
       let P = λ (os : List Opening). DecidesFirst asks h new answer before after answers past os in
       let first = subst P (sym step.2) (released, fits, asked) in
-      let due = settle_same (due_by h).0 (due_by h).1 (due_by h).2 v (is_due_in h) h.standing.episodes (due_each (is_finished h) h.standing.clock h.standing.mark h.decision_wait h.root_wait h.standing.episodes o) in
+      let due = settle_same (due_by h).0 (due_by h).1 (due_by h).2 v (is_due_in h) h.standing.episodes (due_each (is_finished h) h.standing.clock h.standing.mark h.waits.decision_wait h.waits.root_wait h.standing.episodes o) in
       let is : new ≡ record h { standing = deciding (settings h) (room_of h l) h.standing v } = settle.1 ∙ ap (λ (es : List Episode). record h { standing = record h.standing { episodes = es } }) due in
       let S = λ (n : Held). StandsFor n (answered past answers) (k + 1) in
       let U = λ (n : ℕ). IsAnsweredUpTo (settings h) (answered past answers) n in

@@ -118,12 +118,12 @@ module _ (s : Settings) (room : HasRoom s.num_traces) where
       ap done t
 
 -- a shard in which nothing is due has dealt with each decision
-pub all_dealt : (h : Held) (past : Journal) (k : ℕ) → 0 < h.decision_wait → 0 < h.num_traces → has_due h ≡ false → StandsFor h past k → effect_dealt (settings h) past k ≡ effect (settings h) past
+pub all_dealt : (h : Held) (past : Journal) (k : ℕ) → 0 < h.waits.decision_wait → 0 < h.num_traces → has_due h ≡ false → StandsFor h past k → effect_dealt (settings h) past k ≡ effect (settings h) past
 all_dealt h past k w l d t =
     let room = room_of h l in
     dealt-effect (settings h) room past k (nothing_left (settings h) room past k h.standing w t.0 t.1 t.2 (find-from_any (is_due_in h) h.standing.episodes d))
 
-pub take_released : (h : Held) (item : Item) (answer : Taken) (past : Journal) (k : ℕ) → 0 < h.decision_wait → 0 < h.num_traces → has_due h ≡ false → StandsFor h past k → answer ≡ answer_to (settings h) (entry item answer) past →
+pub take_released : (h : Held) (item : Item) (answer : Taken) (past : Journal) (k : ℕ) → 0 < h.waits.decision_wait → 0 < h.num_traces → has_due h ≡ false → StandsFor h past k → answer ≡ answer_to (settings h) (entry item answer) past →
     released_dealt (settings h) (entry item answer ∷ past) 0 ≡ released_dealt (settings h) past k ++ released_by answer
 take_released h item answer past k w l d t a =
     let x = effect (settings h) past in
@@ -132,7 +132,7 @@ take_released h item answer past k w l d t a =
     ∙ ap (λ more. x.released ++ more) own
     ∙ ap (λ (y : Effect). y.released ++ released_by answer) (sym (all_dealt h past k w l d t))
 
-pub take_dropped : (h : Held) (item : Item) (answer : Taken) (past : Journal) (k : ℕ) (reason : Reason) → 0 < h.decision_wait → 0 < h.num_traces → has_due h ≡ false → StandsFor h past k → answer ≡ answer_to (settings h) (entry item answer) past →
+pub take_dropped : (h : Held) (item : Item) (answer : Taken) (past : Journal) (k : ℕ) (reason : Reason) → 0 < h.waits.decision_wait → 0 < h.num_traces → has_due h ≡ false → StandsFor h past k → answer ≡ answer_to (settings h) (entry item answer) past →
     dropped_dealt (settings h) (entry item answer ∷ past) 0 reason ≡ dropped_dealt (settings h) past k reason + dropped_by reason answer
 take_dropped h item answer past k reason w l d t a =
     let x = effect (settings h) past in
@@ -224,6 +224,6 @@ pub nothing_adds : (s : Settings) (past : Journal) (k : ℕ) → AddsDecision s 
 nothing_adds s past k = (sym (append-nil (released_dealt s past k)), λ reason. zero-more (dropped_dealt s past k reason))
 
 -- a shard in which nothing is due has answered each decision
-pub all_answered : (h : Held) (past : Journal) (k : ℕ) → 0 < h.decision_wait → 0 < h.num_traces → has_due h ≡ false → StandsFor h past k → IsAnswered (settings h) past
+pub all_answered : (h : Held) (past : Journal) (k : ℕ) → 0 < h.waits.decision_wait → 0 < h.num_traces → has_due h ≡ false → StandsFor h past k → IsAnswered (settings h) past
 all_answered h past k w l d t =
     all-answered (settings h) past k (nothing_left (settings h) (room_of h l) past k h.standing w t.0 t.1 t.2 (find-from_any (is_due_in h) h.standing.episodes d)) t.2

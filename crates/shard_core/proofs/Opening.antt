@@ -14,6 +14,7 @@ use Rattle.shard_core.specs.declared.answer.Taken.{Taken}
 use Rattle.shard_core.proofs.Forgetting.{IsKept, open_keeps}
 use Rattle.shard_core.proofs.HeldSpans.{open_spans}
 use Rattle.shard_core.proofs.Codes.{keep_puts, opened, refused_opening}
+use Rattle.shard_core.specs.declared.setup.Waits.{Waits}
 
 pub opening_keeps : (clock maximum : ℕ) (old new : Buffer) (c d : CacheLists) (a : Arrival) (ids : Ids) (answer : Taken) {E : Type 0} (r : Result (Option Evicted) (Arrival × E)) → Opened old a (Some ids) clock maximum r new → OpensAs r c answer d →
     episode_of ids.trace old.episodes ≡ None → is_held_in_either ids.trace c ≡ false → IsKept clock old c → IsKept clock new d
@@ -27,11 +28,11 @@ pub opening_spans : (clock maximum : ℕ) (old new : Buffer) (a : Arrival) (ids 
 opening_spans clock maximum old new a ids (Ok left) o h = open_spans ids.trace a clock maximum old new o.1 h
 opening_spans clock maximum old new a ids (Err back) o h = let P = λ (b : Buffer). have_spans b.episodes ≡ true in subst P (sym o.1) h
 
-module _ (p : List Policy) (w root_wait maximum : ℕ) (b : Buffer) (c : CacheLists) (cl mk : ℕ) (en : List Bool) (a : Arrival) (ids : Ids) where
+module _ (p : List Policy) (waits : Waits) (b : Buffer) (c : CacheLists) (cl mk : ℕ) (en : List Bool) (a : Arrival) (ids : Ids) where
   pub opening_takes : (answer : Taken) {E : Type 0} (r : Result (Option Evicted) (Arrival × E)) → state_of (episode_of ids.trace b.episodes) ≡ None → asked ids.trace c ≡ None → (d : Buffer) (x e : CacheLists) → x ≡ c →
-      Opened b a (Some ids) (max a.moment cl) maximum r d → OpensAs r x answer e → TakesSpanOf (held_of p w root_wait maximum b c cl mk en) a ids.trace answer (held_of p w root_wait maximum d e (max a.moment cl) mk en)
+      Opened b a (Some ids) (max a.moment cl) waits.maximum_trace_size r d → OpensAs r x answer e → TakesSpanOf (held_of p waits b c cl mk en) a ids.trace answer (held_of p waits d e (max a.moment cl) mk en)
   opening_takes answer (Ok left) h g d x e z o q =
       let k = keep_puts left x e answer q in
       let P = λ (l : CacheLists). Puts left l k.0 e in
-      opened p w root_wait maximum b c cl mk en a ids.trace answer left k.0 k.1 h g d e o.0 o.1 (subst P z k.2)
-  opening_takes answer (Err back) h g d x e z o q = refused_opening p w root_wait maximum b c cl mk en a ids.trace answer q.0 h g d e o.1 (q.1 ∙ z)
+      opened p waits b c cl mk en a ids.trace answer left k.0 k.1 h g d e o.0 o.1 (subst P z k.2)
+  opening_takes answer (Err back) h g d x e z o q = refused_opening p waits b c cl mk en a ids.trace answer q.0 h g d e o.1 (q.1 ∙ z)

@@ -29,6 +29,7 @@ use Rattle.journal_theory.proofs.FoundAsHeld.{found_as_held, all_dealt}
 use Rattle.journal_theory.proofs.StandingParts.{standing_by}
 use Rattle.journal_theory.proofs.Keeping.{keeps_standing, leaves_held}
 use Rattle.journal_theory.proofs.Answering.{all-answered}
+use Rattle.shard_core.specs.declared.setup.Waits.{Waits}
 
 pub room_of : (h : Held) → 0 < h.num_traces → HasRoom (settings h).num_traces
 room_of h l e = let z : h.num_traces ≡ 0 = cc e in absurd (omega (arith, l, z))
@@ -49,7 +50,7 @@ pub record Ready (h : Held) (past : Journal) (k : ℕ) : Type 0 where
   pub runs : have_ended past (length h.standing.ends) ≡ false
   pub answered : IsAnswered (settings h) past
 
-pub ready : (h : Held) (past : Journal) (k : ℕ) → 0 < h.decision_wait → 0 < h.num_traces → has_due h ≡ false → is_finished h ≡ false → StandsFor h past k → Ready h past k
+pub ready : (h : Held) (past : Journal) (k : ℕ) → 0 < h.waits.decision_wait → 0 < h.num_traces → has_due h ≡ false → is_finished h ≡ false → StandsFor h past k → Ready h past k
 ready h past k w l d f s =
     let room = room_of h l in
     let left = nothing_left (settings h) room past k h.standing w s.0 s.1 s.2 (find-from_any (is_due_in h) h.standing.episodes d) in
@@ -67,7 +68,7 @@ none_taken_due s e past g h = (ap (are_each_answered s (e ∷ past) []) h, g)
 -- a shard that holds what stands for a journal
 stands_at : (h : Held) → 0 < h.num_traces → (past : Journal) (k : ℕ) → StoppedInTime (settings h) past → IsAnsweredUpTo (settings h) past k → StandsFor (record h { standing = standing (settings h) past k }) past k
 stands_at h l past k s g =
-    let Q = λ (n : ℕ). settings_of h.policies h.decision_wait h.root_wait h.maximum_trace_size h.num_traces h.sampled_cache_size h.non_sampled_cache_size n in
+    let Q = λ (n : ℕ). settings_of h.policies h.waits h.num_traces h.sampled_cache_size h.non_sampled_cache_size n in
     let P = λ (n : ℕ). StoppedInTime (Q n) past × (standing (settings h) past k ≡ standing (Q n) past k) × IsAnsweredUpTo (Q n) past k in
     subst P (sym (length-ends (settings h) (room_of h l) past (length h.standing.ends))) (s, refl, g)
 
@@ -186,22 +187,22 @@ none_taken : {X : Type 0} (n : ℕ) → take {A = X} n [] ≡ []
 none_taken zero = refl
 none_taken (suc n) = refl
 
-pub new_stands : (policies : List Policy) (decision_wait root_wait maximum n : ℕ) (b : Buffer) (c : CacheLists) (ended : List Bool) → b.episodes ≡ [] → c.sampled.traces ≡ [] → c.not_sampled.traces ≡ [] → ended ≡ replicate n false →
-    StandsFor (held_of policies decision_wait root_wait maximum b c 0 0 ended) [] 0
-new_stands policies decision_wait root_wait maximum n b c ended e x y f =
+pub new_stands : (policies : List Policy) (waits : Waits) (n : ℕ) (b : Buffer) (c : CacheLists) (ended : List Bool) → b.episodes ≡ [] → c.sampled.traces ≡ [] → c.not_sampled.traces ≡ [] → ended ≡ replicate n false →
+    StandsFor (held_of policies waits b c 0 0 ended) [] 0
+new_stands policies waits n b c ended e x y f =
     let z : ended ≡ ends [] (length ended) = f ∙ sym (no-ends n) ∙ ap (ends []) (sym (ap length f ∙ length-replicate n false)) in
-    let h = held_of policies decision_wait root_wait maximum b c 0 0 ended in
+    let h = held_of policies waits b c 0 0 ended in
     (tt, parts b.episodes c.sampled.traces c.not_sampled.traces ended b.num_traces c.sampled.size c.not_sampled.size e x y z, tt)
   where
     parts : (es : List Episode) (ss ns : List TraceId) (en : List Bool) (l i j : ℕ) → es ≡ [] → ss ≡ [] → ns ≡ [] → en ≡ ends [] (length en) →
-        (let st : Standing = record { episodes = es; sampled = ss; non_sampled = ns; clock = 0; mark = 0; ends = en } in st) ≡ standing (settings_of policies decision_wait root_wait maximum l i j (length en)) [] 0
+        (let st : Standing = record { episodes = es; sampled = ss; non_sampled = ns; clock = 0; mark = 0; ends = en } in st) ≡ standing (settings_of policies waits l i j (length en)) [] 0
     parts es ss ns en l i j e x y z =
         let a = none_taken {X = Opening} l in
         let b = none_taken {X = TraceId} i in
         let c = none_taken {X = TraceId} j in
         let st = λ (es : List Episode) (ss ns : List TraceId) (xs : List Bool). (let r : Standing = record { episodes = es; sampled = ss; non_sampled = ns; clock = 0; mark = 0; ends = xs } in r) in
         ap (λ es. st es ss ns en) e ∙ ap (λ ss. st [] ss ns en) (x ∙ sym b) ∙ ap (λ ns. st [] (take i []) ns en) (y ∙ sym c) ∙ ap (st [] (take i []) (take j [])) z
-        ∙ ap (λ (os : List Opening). st (map (λ o. record { trace = o.trace; moment = o.moment; maximum = maximum; first_root = None; spans = []; verdict = None }) (reverse os)) (take i []) (take j []) (ends [] (length en))) (sym a)
+        ∙ ap (λ (os : List Opening). st (map (λ o. record { trace = o.trace; moment = o.moment; maximum = waits.maximum_trace_size; first_root = None; spans = []; verdict = None }) (reverse os)) (take i []) (take j []) (ends [] (length en))) (sym a)
 
 -- a new shard has a sender that has not ended
 pub new_runs : (n : ℕ) (ended : List Bool) → ended ≡ replicate n false → 0 < n → list_all (λ b. b) ended ≡ false

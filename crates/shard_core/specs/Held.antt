@@ -9,26 +9,23 @@ use Rattle.trace_buffer.specs.Buffer.{Buffer}
 use Rattle.decision_cache.specs.Lists.{CacheLists}
 use Rattle.policy_tree.specs.Meaning.{meaning}
 use Rattle.policy_tree.specs.declared.policy.Policy.{Policy}
+use Rattle.shard_core.specs.declared.setup.Waits.{Waits}
 
 -- what a shard was made with, and what it holds: the greatest size of a trace is bytes, 0 for none; the limit is on the
 -- traces of the buffer, a cache of size 0 is off
 pub record Held : Type 0 where
   pub policies : List Policy
-  pub decision_wait : ℕ
-  pub root_wait : ℕ
-  pub maximum_trace_size : ℕ
+  pub waits : Waits
   pub num_traces : ℕ
   pub sampled_cache_size : ℕ
   pub non_sampled_cache_size : ℕ
   pub standing : Standing
 
 -- a shard by its parts
-abbrev pub held_of : List Policy → (decision_wait root_wait maximum_trace_size : ℕ) → Buffer → CacheLists → (clock mark : ℕ) → List Bool → Held
-held_of policies decision_wait root_wait maximum_trace_size b c clock mark ends = record {
+abbrev pub held_of : List Policy → Waits → Buffer → CacheLists → (clock mark : ℕ) → List Bool → Held
+held_of policies waits b c clock mark ends = record {
   policies = policies;
-  decision_wait = decision_wait;
-  root_wait = root_wait;
-  maximum_trace_size = maximum_trace_size;
+  waits = waits;
   num_traces = b.num_traces;
   sampled_cache_size = c.sampled.size;
   non_sampled_cache_size = c.not_sampled.size;
@@ -36,12 +33,12 @@ held_of policies decision_wait root_wait maximum_trace_size b c clock mark ends 
 }
 
 -- the settings of a shard
-abbrev pub settings_of : List Policy → (decision_wait root_wait maximum_trace_size num_traces sampled_cache_size non_sampled_cache_size senders : ℕ) → Settings
-settings_of policies decision_wait root_wait maximum_trace_size num_traces sampled_cache_size non_sampled_cache_size senders = record { policies = meaning policies; decision_wait = decision_wait; root_wait = root_wait; maximum_trace_size = maximum_trace_size; num_traces = Some num_traces; sampled_cache_size = sampled_cache_size; non_sampled_cache_size = non_sampled_cache_size; senders = senders }
+abbrev pub settings_of : List Policy → Waits → (num_traces sampled_cache_size non_sampled_cache_size senders : ℕ) → Settings
+settings_of policies waits num_traces sampled_cache_size non_sampled_cache_size senders = record { policies = meaning policies; decision_wait = waits.decision_wait; root_wait = waits.root_wait; maximum_trace_size = waits.maximum_trace_size; num_traces = Some num_traces; sampled_cache_size = sampled_cache_size; non_sampled_cache_size = non_sampled_cache_size; senders = senders }
 
 -- the settings that a shard was made with
 abbrev pub settings : Held → Settings
-settings h = settings_of h.policies h.decision_wait h.root_wait h.maximum_trace_size h.num_traces h.sampled_cache_size h.non_sampled_cache_size (length h.standing.ends)
+settings h = settings_of h.policies h.waits h.num_traces h.sampled_cache_size h.non_sampled_cache_size (length h.standing.ends)
 
 -- every sender has ended
 abbrev pub is_finished : Held → Bool
@@ -49,7 +46,7 @@ is_finished h = list_all (λ b. b) h.standing.ends
 
 -- an episode of the shard is due
 abbrev pub is_due_in : Held → Episode → Bool
-is_due_in h e = is_due_by (is_finished h) h.standing.mark h.decision_wait h.root_wait e
+is_due_in h e = is_due_by (is_finished h) h.standing.mark h.waits.decision_wait h.waits.root_wait e
 
 -- some episode of the shard is due
 abbrev pub has_due : Held → Bool
@@ -57,7 +54,7 @@ has_due h = list_any (is_due_in h) h.standing.episodes
 
 -- the moment by which, and the wait and the root wait after which an undecided episode is due: at the end each is
 abbrev pub due_by : Held → ℕ × ℕ × ℕ
-due_by h = if is_finished h then (h.standing.clock, 0, 0) else (h.standing.mark, h.decision_wait, h.root_wait)
+due_by h = if is_finished h then (h.standing.clock, 0, 0) else (h.standing.mark, h.waits.decision_wait, h.waits.root_wait)
 
 -- the shard stands for the journal, where of the decisions at its last item the first `dealt` were dealt with, and just
 -- these and all before are answered

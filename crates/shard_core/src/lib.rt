@@ -21,5 +21,5 @@ mod shard;
 
 pub use answer::{Decided, Taken};
 pub use journal_theory::laws;
-pub use setup::ShardSetup;
+pub use setup::{ShardSetup, Waits};
 pub use shard::Shard;

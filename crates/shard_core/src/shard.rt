@@ -16,7 +16,7 @@ ghost use Rattle.trace_buffer.specs.Buffer.{Appended, Opened, is_new, opened_by,
 ghost use Rattle.shard_core.specs.Holding.{KeepsAs, OpensAs, answer_to_append, leaves_forgotten, policies_on};
 
 use crate::answer::{Decided, Taken, late};
-use crate::setup::ShardSetup;
+use crate::setup::{ShardSetup, Waits};
 use decision_cache::DecisionCache;
 use expression::Searches;
 use otlp_types::{Arrival, Ids, Item};
@@ -38,9 +38,7 @@ pub struct Shard {
     policies: Policies,
     /// For the expressions of the policies.
     searches: Searches,
-    decision_wait: Moment,
-    root_wait: Moment,
-    maximum_trace_size: u64,
+    waits: Waits,
     buffer: TraceBuffer,
     cache: DecisionCache,
     clock: Moment,
@@ -64,9 +62,9 @@ impl Model for Shard {
 
     ghost coded = { Prim.hlevel (codes, any_value.the_row.coded, kind.the_row.coded) };
 
-    ghost view = { λ s. held_of s.policies s.decision_wait s.root_wait s.maximum_trace_size s.buffer s.cache s.clock s.mark s.ends.items };
+    ghost view = { λ s. held_of s.policies s.waits s.buffer s.cache s.clock s.mark s.ends.items };
 
-    ghost invariant = { λ s. (0 < s.decision_wait) × (0 < s.buffer.num_traces) × (have_spans s.buffer.episodes ≡ true) × (opened_by s.clock s.buffer.episodes ≡ true) × AreForgotten (traces s.buffer.episodes) s.cache × (are_known s.searches (expressions_in (meaning s.policies)) ≡ true) };
+    ghost invariant = { λ s. (0 < s.waits.decision_wait) × (0 < s.buffer.num_traces) × (have_spans s.buffer.episodes ≡ true) × (opened_by s.clock s.buffer.episodes ≡ true) × AreForgotten (traces s.buffer.episodes) s.cache × (are_known s.searches (expressions_in (meaning s.policies)) ≡ true) };
 }
 
 impl Shard {
@@ -79,12 +77,12 @@ impl Shard {
 
     /// A shard that has taken nothing. `Err` where memory was refused, or an expression of the policies is none.
     pub fn new(alloc: Global, policies: Policies, setup: ShardSetup) -> Result<Shard, AllocError>
-        requires waits { 0 < setup.decision_wait }
+        requires waits { 0 < setup.waits.decision_wait }
         requires keeps_a_trace { 0 < setup.num_traces }
         requires has_senders { 0 < setup.senders }
         ensures stands { IfOk result (λ shard. StandsFor shard [] 0) }
         ensures policies { IfOk result (λ shard. shard.policies ≡ policies) }
-        ensures settings { IfOk result (λ shard. settings shard ≡ settings_of policies setup.decision_wait setup.root_wait setup.maximum_trace_size setup.num_traces setup.sampled_cache_size setup.non_sampled_cache_size setup.senders) }
+        ensures settings { IfOk result (λ shard. settings shard ≡ settings_of policies setup.waits setup.num_traces setup.sampled_cache_size setup.non_sampled_cache_size setup.senders) }
         ensures nothing_due { IfOk result (λ shard. has_due shard ≡ false) }
         ensures running { IfOk result (λ shard. is_finished shard ≡ false) }
         ensures ends { IfOk result (λ shard. shard.standing.ends ≡ replicate setup.senders false) }
@@ -94,9 +92,7 @@ impl Shard {
             Ok((buffer, cache, ends)) => Ok(Shard {
                 policies,
                 searches,
-                decision_wait: setup.decision_wait,
-                root_wait: setup.root_wait,
-                maximum_trace_size: setup.maximum_trace_size,
+                waits: setup.waits,
                 buffer,
                 cache,
                 clock: 0,
@@ -124,7 +120,7 @@ impl Shard {
         if self.finished() {
             (self.clock, 0, 0)
         } else {
-            (self.mark, self.decision_wait, self.root_wait)
+            (self.mark, self.waits.decision_wait, self.waits.root_wait)
         }
     }
 
@@ -196,7 +192,7 @@ impl Shard {
                         &mut self.buffer,
                         arrival,
                         self.clock,
-                        self.maximum_trace_size,
+                        self.waits.maximum_trace_size,
                         has_memory,
                     ),
                 ),

@@ -5,6 +5,14 @@
 //! of one line ([`takes_handed_lines`]); `hand` answers `Failed` only where one write failed in that call, and `Down`
 //! from then on. What no contract can say of a writer, and `parts_tests` shows: how often an interrupted write is tried
 //! again, and that another error isn't.
+//!
+//! ```
+//! let mut lines = LineSink::new(WriteSink::new(writer));
+//! if lines.hand(line).is_err() {
+//!     // No later line is written.
+//! }
+//! let writer = lines.end().end();
+//! ```
 #![tactic(auto)]
 
 mod law;

@@ -129,7 +129,7 @@ ticker_by_shard = refl
 
 -- two spans are released, one of them in a batch that may have two
 abbrev of_two : CoreConfig
-of_two = record { shard = record { policies = errors; decision_wait = 10; root_wait = 0; maximum_trace_size = 0; num_traces = Some 1; sampled_cache_size = 1; non_sampled_cache_size = 1; senders = 0 }; batch_size = 2 }
+of_two = record (configured errors (Some 1) 1 1) { batch_size = 2 }
 
 abbrev half_full : List Step
 half_full = receive 0 0 0 (error 1 ∷ error 1 ∷ []) ∷ route 0 0 ∷ route 0 0 ∷ take 0 false false ∷ take 0 false false ∷ tick 0 10 ∷ decide 0 [] ∷ ship 0 ∷ ship 0 ∷ pull ∷ []

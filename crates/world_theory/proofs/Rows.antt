@@ -266,7 +266,7 @@ drop_batch_while_down = refl
 -- ---- order
 
 abbrev of_two : CoreConfig
-of_two = record { shard = record { policies = always; decision_wait = 10; root_wait = 0; maximum_trace_size = 0; num_traces = Some 1; sampled_cache_size = 1; non_sampled_cache_size = 1; senders = 0 }; batch_size = 2 }
+of_two = record (configured always (Some 1) 1 1) { batch_size = 2 }
 
 -- two requests of one trace: its spans keep their order from the lane to the batch
 pub batch_of_two : option_map handed_numbers (run of_two 1 1 (receive 0 0 0 (plain 1 ∷ []) ∷ receive 0 0 0 (plain 1 ∷ []) ∷ route 0 0 ∷ route 0 0 ∷ take 0 false false ∷ take 0 false false ∷ tick 0 10 ∷ decide 0 [] ∷ ship 0 ∷ ship 0 ∷ pull ∷ pull ∷ hand ∷ [])) ≡ Some ((0 ∷ 1 ∷ []) ∷ [])

@@ -103,7 +103,7 @@ fn sent(
     };
     let is_down = exporter.is_down();
     let last = exporter.flush();
-    let sink = exporter.end().end();
+    let sink = exporter.end();
     let failures = sink.failures();
     let is_held = sink.end().taken.as_slice() == held;
     let flushes = [flushes[0], flushes[1], flushes[2], last];

@@ -7,7 +7,7 @@ ghost use Rattle.journal_theory.specs.Journal.{has_ids};
 use otlp_types::Item;
 use policy_tree::Policies;
 use rate_budget::Budgets;
-use shard_core::{Decided, Shard, ShardSetup, Taken};
+use shard_core::{Decided, Shard, ShardSetup, Taken, Waits};
 use std::alloc::{AllocError, Global};
 use trace_hash::TraceHashing;
 
@@ -44,9 +44,11 @@ impl LimitedShard {
         let limiter = Budgets::new(alloc, &policies)?;
         let setup = ShardSetup {
             hashing: TraceHashing::Fixed,
-            decision_wait: numbers.decision_wait,
-            root_wait: numbers.root_wait,
-            maximum_trace_size: numbers.maximum_trace_size,
+            waits: Waits {
+                decision_wait: numbers.decision_wait,
+                root_wait: numbers.root_wait,
+                maximum_trace_size: numbers.maximum_trace_size,
+            },
             num_traces: numbers.num_traces,
             sampled_cache_size: numbers.sampled,
             non_sampled_cache_size: numbers.non_sampled,

@@ -41,7 +41,7 @@ pub returns-in-Accepted-true-clause-acts : goal.returns-in-Accepted-true-clause-
 returns-in-Accepted-true-clause-acts g c = λ r stands.
     let found = c.in-Accepted-true.ensures.brings r stands in
     let cause = accepts c.in-Accepted-true.awaited in
-    let known = g.W.Write.contents in (
+    let known = g.Writer.Write.contents in (
       cause,
       found.0,
       found.1,
@@ -67,7 +67,7 @@ returns-in-Accepted-false-clause-acts g c = λ r stands.
       record {
         can = refl;
         closes = refl;
-        puts = ([], Appends-none (g.W.Write.contents c.args.writer.now), ap (λ a. text_of (accepts a)) (sym c.in-Accepted-false.awaited-test));
+        puts = ([], Appends-none (g.Writer.Write.contents c.args.writer.now), ap (λ a. text_of (accepts a)) (sym c.in-Accepted-false.awaited-test));
         lane = refl;
       },
       refl,
@@ -76,5 +76,5 @@ returns-in-Accepted-false-clause-acts g c = λ r stands.
 pub returns-in-Whole-clause-acts : goal.returns-in-Whole-clause-acts
 returns-in-Whole-clause-acts g c = λ r stands.
     let found = c.in-Whole.ensures.brings r stands in
-    let served = c.respond-closes.ensures (g.E.Engine.body_of c.advance.new.self) c.body-body.ensures in
-    (served.0, found.0, found.2 served.0 served.1, (λ e. found.1), served.2, serves_answers c.in-Whole.is_packed (g.E.Engine.body_of c.advance.new.self) c.in-Whole.says_close served.0 served.1)
+    let served = c.respond-closes.ensures (g.Parser.Engine.body_of c.advance.new.self) c.body-body.ensures in
+    (served.0, found.0, found.2 served.0 served.1, (λ e. found.1), served.2, serves_answers c.in-Whole.is_packed (g.Parser.Engine.body_of c.advance.new.self) c.in-Whole.says_close served.0 served.1)

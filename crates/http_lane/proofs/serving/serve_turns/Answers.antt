@@ -10,8 +10,8 @@ use Rattle.http_lane.proofs.serving.serve_turns.Goals.{in-Gave+in_default, in-Qu
 pub loop-init : goal.loop-init
 loop-init g c = (
   omega arith,
-  serving_first g.E.Engine.awaits (Submits g.P.Port.takes g.P.Port.refuses) (g.W.Write.contents c.args.writer.now) (intake c.args.lane.now c.args.conn.now (g.C.Counter.counted c.args.counts.now))
-      (g.R.Source.given c.args.reader.now) c.args.engine.now c.requires,
+  serving_first g.Parser.Engine.awaits (Submits g.ShardPort.Port.takes g.ShardPort.Port.refuses) (g.Writer.Write.contents c.args.writer.now) (intake c.args.lane.now c.args.conn.now (g.Ledger.Counter.counted c.args.counts.now))
+      (g.Reader.Source.given c.args.reader.now) c.args.engine.now c.requires,
 )
 
 pub returns-in-Some : goal.returns-in-Some
@@ -20,32 +20,32 @@ returns-in-Some g c =
     let bytes = take c.in-Gave.n c.turn.new.piece in
     let settled = c.in-Some.ensures (grown s.last.reading bytes) (c.take.ensures s.last.reading s.stood) in
     let some : 0 < length bytes = omega (arith, length-take c.in-Gave.n c.turn.new.piece, c.in-Gave.ensures.fits.0, c.in-Gave.ensures.fits.1, c.turn.auto.piece) in
-    serving_end (g.W.Write.contents c.settle_to_end.new.writer) (intake c.settle_to_end.new.lane c.settle_to_end.new.conn (g.C.Counter.counted c.settle_to_end.new.counts)) (g.R.Source.given c.turn.new.self) 0 (gave bytes) false settled.0 settled.1 c.in-Some.end
+    serving_end (g.Writer.Write.contents c.settle_to_end.new.writer) (intake c.settle_to_end.new.lane c.settle_to_end.new.conn (g.Ledger.Counter.counted c.settle_to_end.new.counts)) (g.Reader.Source.given c.turn.new.self) 0 (gave bytes) false settled.0 settled.1 c.in-Some.end
     s (some, settled.2, refl) c.loop-test.true c.in-Gave.ensures.tells settled.4
 
 pub returns-in-Failed : goal.returns-in-Failed
-returns-in-Failed g c = let s = c.loop.invariant.1 in serving_stop (g.R.Source.given c.turn.new.self) failed ReadFault s (refl, refl) c.loop-test.true c.in-Failed.ensures.tells
+returns-in-Failed g c = let s = c.loop.invariant.1 in serving_stop (g.Reader.Source.given c.turn.new.self) failed ReadFault s (refl, refl) c.loop-test.true c.in-Failed.ensures.tells
 
 pub returns-in-Some-wait : goal.returns-in-Some-wait
 returns-in-Some-wait g c =
-    let known = g.W.Write.contents in
-    let lane = intake c.loop.lane c.loop.conn (g.C.Counter.counted c.loop.counts) in
+    let known = g.Writer.Write.contents in
+    let lane = intake c.loop.lane c.loop.conn (g.Ledger.Counter.counted c.loop.counts) in
     let s = c.loop.invariant.1 in
     let waited = c.in-Some-wait.ensures s.last s.stood (omega (arith, s.row_is)) in
-    serving_end (known c.wait.new.writer) lane (g.R.Source.given c.turn.new.self) (c.loop.row + 1) quiet waited.0 waited.1 s.last.reading c.in-Some-wait.end
-    s waited.2 c.loop-test.true c.in-Quiet.ensures.tells (does_still (Submits g.P.Port.takes g.P.Port.refuses) (known c.loop.writer) (known c.wait.new.writer) lane waited.1 waited.3 waited.4 waited.5 waited.6)
+    serving_end (known c.wait.new.writer) lane (g.Reader.Source.given c.turn.new.self) (c.loop.row + 1) quiet waited.0 waited.1 s.last.reading c.in-Some-wait.end
+    s waited.2 c.loop-test.true c.in-Quiet.ensures.tells (does_still (Submits g.ShardPort.Port.takes g.ShardPort.Port.refuses) (known c.loop.writer) (known c.wait.new.writer) lane waited.1 waited.3 waited.4 waited.5 waited.6)
 
 pub returns-in-Ended : goal.returns-in-Ended
 returns-in-Ended g c =
     let s = c.loop.invariant.1 in
-    serving_stop (g.R.Source.given c.turn.new.self) ended c.ended.result s (refl, ap (λ why. standing s.last.reading 0 (Some why)) (c.ended.ensures s.last.reading s.stood)) c.loop-test.true c.in-Ended.ensures.tells
+    serving_stop (g.Reader.Source.given c.turn.new.self) ended c.ended.result s (refl, ap (λ why. standing s.last.reading 0 (Some why)) (c.ended.ensures s.last.reading s.stood)) c.loop-test.true c.in-Ended.ensures.tells
 
 pub loop-preserved : goal.loop-preserved
 loop-preserved g c =
-    let known = g.W.Write.contents in
-    let submits = Submits g.P.Port.takes g.P.Port.refuses in
-    let lane = intake c.loop.lane c.loop.conn (g.C.Counter.counted c.loop.counts) in
-    let read = g.R.Source.given c.turn.new.self in
+    let known = g.Writer.Write.contents in
+    let submits = Submits g.ShardPort.Port.takes g.ShardPort.Port.refuses in
+    let lane = intake c.loop.lane c.loop.conn (g.Ledger.Counter.counted c.loop.counts) in
+    let read = g.Reader.Source.given c.turn.new.self in
     let s = c.loop.invariant.1 in
     let low : c.loop.row ≤ c.loop.counter = c.loop.invariant.0 in
     elim c.match-turn.branch [
@@ -56,7 +56,7 @@ loop-preserved g c =
           let some : 0 < length bytes = omega (arith, length-take w.in-Gave.n c.turn.new.piece, w.in-Gave.ensures.fits.0, w.in-Gave.ensures.fits.1, c.turn.auto.piece) in
           rw (w.engine-is, w.lane-is, w.conn-is, w.counts-is, w.writer-is, w.row-is) (
             omega arith,
-            serving_more (known w.settle_to_end.new.writer) (intake w.settle_to_end.new.lane w.settle_to_end.new.conn (g.C.Counter.counted w.settle_to_end.new.counts)) read w.settle_to_end.new.engine 0 (gave bytes) false settled.0 settled.1
+            serving_more (known w.settle_to_end.new.writer) (intake w.settle_to_end.new.lane w.settle_to_end.new.conn (g.Ledger.Counter.counted w.settle_to_end.new.counts)) read w.settle_to_end.new.engine 0 (gave bytes) false settled.0 settled.1
                 s (some, settled.2, refl) (settled.3 refl) (settled_rests reading settled.0 settled.1 settled.2) w.in-Gave.ensures.tells settled.4,
           )
       | in-Quiet+in_default-wait w ↦

@@ -5,5 +5,5 @@ use Rattle.http_lane.proofs.serving.serve_turns.Given as goal
 
 abbrev pub invariant-loop : goal.invariant-loop
 invariant-loop g l =
-    (l.row ≤ l.counter) × Serving g.E.Engine.awaits (Submits g.P.Port.takes g.P.Port.refuses) (g.W.Write.contents l.fn.writer) (g.W.Write.contents l.writer) (intake l.fn.lane l.fn.conn (g.C.Counter.counted l.fn.counts)) (intake l.lane l.conn (g.C.Counter.counted l.counts))
-    (g.R.Source.given l.fn.reader) (g.R.Source.given l.reader) l.engine l.row l.counter
+    (l.row ≤ l.counter) × Serving g.Parser.Engine.awaits (Submits g.ShardPort.Port.takes g.ShardPort.Port.refuses) (g.Writer.Write.contents l.fn.writer) (g.Writer.Write.contents l.writer) (intake l.fn.lane l.fn.conn (g.Ledger.Counter.counted l.fn.counts)) (intake l.lane l.conn (g.Ledger.Counter.counted l.counts))
+    (g.Reader.Source.given l.fn.reader) (g.Reader.Source.given l.reader) l.engine l.row l.counter

@@ -10,13 +10,13 @@ returns-then-not-count g c = λ is_packed body is.
     let cause = submitted c.args.text.now c.now.result reply c.args.says_close in
     let took = c.submit-reply.ensures in
     let counts = c.if-not-count.ensures.counts in
-    let new = intake c.submit-reply.new.self c.submit-reply.new.conn (g.C.Counter.counted c.count.new.counts) in (
+    let new = intake c.submit-reply.new.self c.submit-reply.new.conn (g.Ledger.Counter.counted c.count.new.counts) in (
       cause,
       (body, refl, is, refl),
       record {
         can = c.if-not-count.ensures.spans refl;
         closes = refl;
-        puts = ([], Appends-none (g.W.Write.contents c.args.writer.now), refl);
+        puts = ([], Appends-none (g.Writer.Write.contents c.args.writer.now), refl);
         lane = (
           new,
           record { received = took.received; lane = took.lane; ports = took.ports; json = took.json; shape = took.shape; refused = took.refused; counts = counts },
@@ -38,8 +38,8 @@ returns g c = λ is_packed body is.
         closes = refl;
         puts = c.answer.ensures.puts;
         lane = (
-          intake c.submit-reply.new.self c.submit-reply.new.conn (g.C.Counter.counted c.count.new.counts),
-          record { received = took.received; lane = took.lane; ports = took.ports; json = took.json; shape = took.shape; refused = took.refused; counts = subst (λ t. Counts reply t (g.C.Counter.counted c.args.counts.now) (g.C.Counter.counted c.count.new.counts)) (sym (counted_text c.answer.result c.answer.ensures.fate)) counts },
+          intake c.submit-reply.new.self c.submit-reply.new.conn (g.Ledger.Counter.counted c.count.new.counts),
+          record { received = took.received; lane = took.lane; ports = took.ports; json = took.json; shape = took.shape; refused = took.refused; counts = subst (λ t. Counts reply t (g.Ledger.Counter.counted c.args.counts.now) (g.Ledger.Counter.counted c.count.new.counts)) (sym (counted_text c.answer.result c.answer.ensures.fate)) counts },
           refl,
         );
       },

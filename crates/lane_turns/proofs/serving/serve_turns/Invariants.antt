@@ -12,8 +12,8 @@ abbrev pub invariant-loop : goal.invariant-loop
 invariant-loop g l =
     (goal.iterator-loop g).can_next l.iterator' × (goal.iterator-loop g).is_finite l.iterator'
     × IfSome l.spare (λ engine. Awaits engine (in_head l.allowed []))
-    × (acts : List Act) × Fits (Submits g.P.Port.takes g.P.Port.refuses) l.allowed l.fn.lane.number (lane_now l.fn.lane (g.C.Counter.counted l.fn.counts)) (get l.table) acts (lane_now l.lane (g.C.Counter.counted l.counts))
+    × (acts : List Act) × Fits (Submits g.ShardPort.Port.takes g.ShardPort.Port.refuses) l.allowed l.fn.lane.number (lane_now l.fn.lane (g.Ledger.Counter.counted l.fn.counts)) (get l.table) acts (lane_now l.lane (g.Ledger.Counter.counted l.counts))
     × (acts_uncounted acts ≡ false)
-    × ((rounds : List (DriverRound g.row.D.Denot g.row.P.Denot)) (last : g.row.D.Denot) (after : LaneNow g.row.P.Denot) (is_full : Bool)
-    → RunsFrom g.D.Driver.asks g.D.Driver.hears (Submits g.P.Port.takes g.P.Port.refuses) l.allowed (lane_now l.fn.lane (g.C.Counter.counted l.fn.counts)) l.driver (get l.table) acts (lane_now l.lane (g.C.Counter.counted l.counts)) rounds last after is_full
-    → IsDriven g.D.Driver.asks g.D.Driver.hears (Submits g.P.Port.takes g.P.Port.refuses) l.allowed l.fn.driver (lane_now l.fn.lane (g.C.Counter.counted l.fn.counts)) last after is_full)
+    × ((rounds : List (DriverRound g.row.Poller.Denot g.row.ShardPort.Denot)) (last : g.row.Poller.Denot) (after : LaneNow g.row.ShardPort.Denot) (is_full : Bool)
+    → RunsFrom g.Poller.Driver.asks g.Poller.Driver.hears (Submits g.ShardPort.Port.takes g.ShardPort.Port.refuses) l.allowed (lane_now l.fn.lane (g.Ledger.Counter.counted l.fn.counts)) l.driver (get l.table) acts (lane_now l.lane (g.Ledger.Counter.counted l.counts)) rounds last after is_full
+    → IsDriven g.Poller.Driver.asks g.Poller.Driver.hears (Submits g.ShardPort.Port.takes g.ShardPort.Port.refuses) l.allowed l.fn.driver (lane_now l.fn.lane (g.Ledger.Counter.counted l.fn.counts)) last after is_full)

@@ -12,24 +12,24 @@ use Rattle.lane_turns.proofs.serving.turn.Goals as goal
 pub returns-then-not-contains-clause-fits : goal.returns-then-not-contains-clause-fits
 returns-then-not-contains-clause-fits g c =
     let old = get c.args.table.now in
-    let now = lane_now c.args.lane.now (g.C.Counter.counted c.args.counts.now) in
-    nothing_more (Submits g.P.Port.takes g.P.Port.refuses) c.args.allowed old now (λ earlier more. AsTold c.args.allowed old old earlier c.args.next c.args.moment c.args.piece.now Nothing c.clear.new.self.items more)
+    let now = lane_now c.args.lane.now (g.Ledger.Counter.counted c.args.counts.now) in
+    nothing_more (Submits g.ShardPort.Port.takes g.ShardPort.Port.refuses) c.args.allowed old now (λ earlier more. AsTold c.args.allowed old old earlier c.args.next c.args.moment c.args.piece.now Nothing c.clear.new.self.items more)
     (λ earlier. subst (λ said. AsTold c.args.allowed old old earlier said c.args.moment c.args.piece.now Nothing c.clear.new.self.items []) (sym c.in-Came.is)
     (inr (none_of (old c.in-Came.key) c.contains.result c.contains.ensures.1 c.if-not-contains.true, (refl, λ key. refl), refl, c.clear.ensures.items)))
 
 pub returns-then-not-contains-2-clause-fits : goal.returns-then-not-contains-2-clause-fits
 returns-then-not-contains-2-clause-fits g c =
     let old = get c.args.table.now in
-    let now = lane_now c.args.lane.now (g.C.Counter.counted c.args.counts.now) in
-    nothing_more (Submits g.P.Port.takes g.P.Port.refuses) c.args.allowed old now (λ earlier more. AsTold c.args.allowed old old earlier c.args.next c.args.moment c.args.piece.now Nothing c.clear.new.self.items more)
+    let now = lane_now c.args.lane.now (g.Ledger.Counter.counted c.args.counts.now) in
+    nothing_more (Submits g.ShardPort.Port.takes g.ShardPort.Port.refuses) c.args.allowed old now (λ earlier more. AsTold c.args.allowed old old earlier c.args.next c.args.moment c.args.piece.now Nothing c.clear.new.self.items more)
     (λ earlier. subst (λ said. AsTold c.args.allowed old old earlier said c.args.moment c.args.piece.now Nothing c.clear.new.self.items []) (sym c.in-Look.is)
     (inr (none_of (old c.in-Look.key) c.contains-in-Look.result c.contains-in-Look.ensures.1 c.if-not-contains-2.true, (refl, λ key. refl), refl, c.clear.ensures.items)))
 
 pub returns-then-not-contains-3-clause-fits : goal.returns-then-not-contains-3-clause-fits
 returns-then-not-contains-3-clause-fits g c =
     let old = get c.args.table.now in
-    let now = lane_now c.args.lane.now (g.C.Counter.counted c.args.counts.now) in
-    nothing_more (Submits g.P.Port.takes g.P.Port.refuses) c.args.allowed old now (λ earlier more. AsTold c.args.allowed old old earlier c.args.next c.args.moment c.args.piece.now Nothing c.clear.new.self.items more)
+    let now = lane_now c.args.lane.now (g.Ledger.Counter.counted c.args.counts.now) in
+    nothing_more (Submits g.ShardPort.Port.takes g.ShardPort.Port.refuses) c.args.allowed old now (λ earlier more. AsTold c.args.allowed old old earlier c.args.next c.args.moment c.args.piece.now Nothing c.clear.new.self.items more)
     (λ earlier. subst (λ said. AsTold c.args.allowed old old earlier said c.args.moment c.args.piece.now Nothing c.clear.new.self.items []) (sym c.in-Leave.is)
     (inr (none_of (old c.in-Leave.key) c.contains-in-Leave.result c.contains-in-Leave.ensures.1 c.if-not-contains-3.true, (refl, λ key. refl), refl, c.clear.ensures.items)))
 
@@ -37,8 +37,8 @@ pub returns-in-Take-clause-fits : goal.returns-in-Take-clause-fits
 returns-in-Take-clause-fits g c =
     let old = get c.args.table.now in
     let new = get c.take.new.open in
-    let now = lane_now c.args.lane.now (g.C.Counter.counted c.args.counts.now) in
-    goes_by (Submits g.P.Port.takes g.P.Port.refuses) c.args.allowed old now new (lane_now c.take.new.lane (g.C.Counter.counted c.args.counts.now)) false false
+    let now = lane_now c.args.lane.now (g.Ledger.Counter.counted c.args.counts.now) in
+    goes_by (Submits g.ShardPort.Port.takes g.ShardPort.Port.refuses) c.args.allowed old now new (lane_now c.take.new.lane (g.Ledger.Counter.counted c.args.counts.now)) false false
     (λ earlier. TakesOne old new c.args.moment c.take.result)
     (λ earlier more. AsTold c.args.allowed old new earlier c.args.next c.args.moment c.args.piece.now (Took c.take.result) c.clear.new.self.items more)
     (c.take.ensures.fits c.args.allowed) refl
@@ -49,8 +49,8 @@ pub returns-else-not-contains-clause-fits : goal.returns-else-not-contains-claus
 returns-else-not-contains-clause-fits g c =
     let old = get c.args.table.now in
     let new = get c.came-end.new.open in
-    let now = lane_now c.args.lane.now (g.C.Counter.counted c.args.counts.now) in
-    goes_by (Submits g.P.Port.takes g.P.Port.refuses) c.args.allowed old now new (lane_now c.came-end.new.lane (g.C.Counter.counted c.came-end.new.counts)) (is_full_end c.came-end.result) (is_full_done c.turned.result)
+    let now = lane_now c.args.lane.now (g.Ledger.Counter.counted c.args.counts.now) in
+    goes_by (Submits g.ShardPort.Port.takes g.ShardPort.Port.refuses) c.args.allowed old now new (lane_now c.came-end.new.lane (g.Ledger.Counter.counted c.came-end.new.counts)) (is_full_end c.came-end.result) (is_full_done c.turned.result)
     (TurnAt c.args.allowed old new c.in-Came.key c.args.moment AnyOne (IsTaken (take c.in-Came.len c.args.piece.now)) (Appends (Some c.clear.new.self.items) (Some c.came-end.new.writer.items)) c.came-end.result)
     (λ earlier more. AsTold c.args.allowed old new earlier c.args.next c.args.moment c.args.piece.now c.turned.result c.came-end.new.writer.items more)
     c.came-end.ensures.fits c.turned.ensures.full
@@ -61,8 +61,8 @@ pub returns-else-not-contains-2-clause-fits : goal.returns-else-not-contains-2-c
 returns-else-not-contains-2-clause-fits g c =
     let old = get c.args.table.now in
     let new = get c.waited-end.new.open in
-    let now = lane_now c.args.lane.now (g.C.Counter.counted c.args.counts.now) in
-    goes_by (Submits g.P.Port.takes g.P.Port.refuses) c.args.allowed old now new (lane_now c.args.lane.now (g.C.Counter.counted c.args.counts.now)) (is_full_end c.waited-end.result) (is_full_done c.turned-in-Look.result)
+    let now = lane_now c.args.lane.now (g.Ledger.Counter.counted c.args.counts.now) in
+    goes_by (Submits g.ShardPort.Port.takes g.ShardPort.Port.refuses) c.args.allowed old now new (lane_now c.args.lane.now (g.Ledger.Counter.counted c.args.counts.now)) (is_full_end c.waited-end.result) (is_full_done c.turned-in-Look.result)
     (TurnAt c.args.allowed old new c.in-Look.key c.args.moment AnyOne (λ coming. coming ≡ nothing) (Appends (Some c.clear.new.self.items) (Some c.waited-end.new.writer.items)) c.waited-end.result)
     (λ earlier more. AsTold c.args.allowed old new earlier c.args.next c.args.moment c.args.piece.now c.turned-in-Look.result c.waited-end.new.writer.items more)
     (c.waited-end.ensures.fits c.args.allowed) c.turned-in-Look.ensures.full
@@ -73,8 +73,8 @@ pub returns-else-not-contains-3-clause-fits : goal.returns-else-not-contains-3-c
 returns-else-not-contains-3-clause-fits g c =
     let old = get c.args.table.now in
     let new = get c.leave-end.new.open in
-    let now = lane_now c.args.lane.now (g.C.Counter.counted c.args.counts.now) in
-    goes_by (Submits g.P.Port.takes g.P.Port.refuses) c.args.allowed old now new (lane_now c.args.lane.now (g.C.Counter.counted c.args.counts.now)) (is_full_end (Some c.leave-end.result)) (is_full_done c.turned-in-Leave.result)
+    let now = lane_now c.args.lane.now (g.Ledger.Counter.counted c.args.counts.now) in
+    goes_by (Submits g.ShardPort.Port.takes g.ShardPort.Port.refuses) c.args.allowed old now new (lane_now c.args.lane.now (g.Ledger.Counter.counted c.args.counts.now)) (is_full_end (Some c.leave-end.result)) (is_full_done c.turned-in-Leave.result)
     (TurnAt c.args.allowed old new c.in-Leave.key c.args.moment AnyOne (λ coming. coming ≡ coming_of c.in-Leave.how) (λ text. text ≡ []) (Some c.leave-end.result))
     (λ earlier more. AsTold c.args.allowed old new earlier c.args.next c.args.moment c.args.piece.now c.turned-in-Leave.result c.clear.new.self.items more)
     (c.leave-end.ensures.fits c.args.allowed) (c.turned-in-Leave.ensures.full)
@@ -85,8 +85,8 @@ pub returns-in-Dismiss-clause-fits : goal.returns-in-Dismiss-clause-fits
 returns-in-Dismiss-clause-fits g c =
     let old = get c.args.table.now in
     let new = get c.dismiss-end.new.open in
-    let now = lane_now c.args.lane.now (g.C.Counter.counted c.args.counts.now) in
-    goes_by (Submits g.P.Port.takes g.P.Port.refuses) c.args.allowed old now new (lane_now c.args.lane.now (g.C.Counter.counted c.args.counts.now)) (is_full_end c.dismiss-end.result) (is_full_done c.turned-in-Dismiss.result)
+    let now = lane_now c.args.lane.now (g.Ledger.Counter.counted c.args.counts.now) in
+    goes_by (Submits g.ShardPort.Port.takes g.ShardPort.Port.refuses) c.args.allowed old now new (lane_now c.args.lane.now (g.Ledger.Counter.counted c.args.counts.now)) (is_full_end c.dismiss-end.result) (is_full_done c.turned-in-Dismiss.result)
     (Dismisses c.args.allowed old new c.in-Dismiss.key c.args.moment c.dismiss-end.result)
     (λ earlier more. AsTold c.args.allowed old new earlier c.args.next c.args.moment c.args.piece.now c.turned-in-Dismiss.result c.clear.new.self.items more)
     (c.dismiss-end.ensures.fits c.args.allowed) (c.turned-in-Dismiss.ensures.full)

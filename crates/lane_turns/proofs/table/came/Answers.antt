@@ -21,8 +21,8 @@ returns-in-Some-clause-fits g c = λ number first acts f.
     let gone = c.remove-exchange.ensures.updates.changed in
     let act = had x.conn.key.ordinal x.conn.next conn.next (turned t.0 c.args.arrived.moment false t.1) in (
       act ∷ [],
-      fits_turn g.P.Port.takes g.P.Port.refuses c.args.arrived.allowed number first (get c.args.open.now) (get c.remove-exchange.new.self) acts (lane_now c.args.lane.now (g.C.Counter.counted c.args.counts.now)) c.args.key x at
-          c.remove-exchange.ensures.updates.others f t.0 c.args.arrived.moment false t.1 t.2 conn c.came-end.new.lane (g.C.Counter.counted c.came-end.new.counts) t.4 t.7.3
+      fits_turn g.ShardPort.Port.takes g.ShardPort.Port.refuses c.args.arrived.allowed number first (get c.args.open.now) (get c.remove-exchange.new.self) acts (lane_now c.args.lane.now (g.Ledger.Counter.counted c.args.counts.now)) c.args.key x at
+          c.remove-exchange.ensures.updates.others f t.0 c.args.arrived.moment false t.1 t.2 conn c.came-end.new.lane (g.Ledger.Counter.counted c.came-end.new.counts) t.4 t.7.3
           (λ y e. absurd (let none = sym gone ∙ e in cc))
           (λ e. absurd (let none = sym t.5 ∙ e in let some = c.in-Some.is in cc)),
       one_full act _ (turn_full t.0 o.waiting c.args.arrived.moment false t.1 t.2 t.4 ∙ ap is_full_end (t.5 ∙ c.in-Some.is)),
@@ -30,7 +30,7 @@ returns-in-Some-clause-fits g c = λ number first acts f.
         x,
         at,
         tt,
-        has_turn c.args.arrived.allowed acts x c.args.arrived.moment (IsTaken c.args.arrived.piece.now) (Appends (g.W.Write.contents c.args.writer.now) (g.W.Write.contents c.came-end.new.writer)) (Some c.in-Some.why) o.waiting t.0 false t.1 t.2 conn.next t.7.0
+        has_turn c.args.arrived.allowed acts x c.args.arrived.moment (IsTaken c.args.arrived.piece.now) (Appends (g.Writer.Write.contents c.args.writer.now) (g.Writer.Write.contents c.came-end.new.writer)) (Some c.in-Some.why) o.waiting t.0 false t.1 t.2 conn.next t.7.0
             o.run o.goes_on t.4 t.3 (t.5 ∙ c.in-Some.is) t.7.2 t.7.1,
         (gone, c.remove-exchange.ensures.updates.others),
       ),
@@ -48,9 +48,9 @@ returns-clause-fits g c = λ number first acts f.
     let here : get c.insert_reserved.new.self c.args.key ≡ Some c.came-end.new.self = subst (λ k. get c.insert_reserved.new.self k ≡ Some c.came-end.new.self) place c.insert_reserved.ensures.updates.changed in
     let act = had x.conn.key.ordinal x.conn.next conn.next (turned t.0 c.args.arrived.moment false t.1) in (
       act ∷ [],
-      fits_turn g.P.Port.takes g.P.Port.refuses c.args.arrived.allowed number first (get c.args.open.now) (get c.insert_reserved.new.self) acts (lane_now c.args.lane.now (g.C.Counter.counted c.args.counts.now)) c.args.key x at
+      fits_turn g.ShardPort.Port.takes g.ShardPort.Port.refuses c.args.arrived.allowed number first (get c.args.open.now) (get c.insert_reserved.new.self) acts (lane_now c.args.lane.now (g.Ledger.Counter.counted c.args.counts.now)) c.args.key x at
           (λ other ne. c.insert_reserved.ensures.updates.others other (λ e. ne (e ∙ place)) ∙ c.remove-exchange.ensures.updates.others other ne)
-          f t.0 c.args.arrived.moment false t.1 t.2 conn c.came-end.new.lane (g.C.Counter.counted c.came-end.new.counts) t.4 t.7.3
+          f t.0 c.args.arrived.moment false t.1 t.2 conn c.came-end.new.lane (g.Ledger.Counter.counted c.came-end.new.counts) t.4 t.7.3
           (λ y e.
           let same : c.came-end.new.self ≡ y = let both = sym here ∙ e in cc in
           subst (λ (z : Exchange). Left c.args.arrived.allowed conn t.2 z) same
@@ -61,13 +61,13 @@ returns-clause-fits g c = λ number first acts f.
         x,
         at,
         tt,
-        has_turn c.args.arrived.allowed acts x c.args.arrived.moment (IsTaken c.args.arrived.piece.now) (Appends (g.W.Write.contents c.args.writer.now) (g.W.Write.contents c.came-end.new.writer)) None o.waiting t.0 false t.1 t.2 conn.next t.7.0
+        has_turn c.args.arrived.allowed acts x c.args.arrived.moment (IsTaken c.args.arrived.piece.now) (Appends (g.Writer.Write.contents c.args.writer.now) (g.Writer.Write.contents c.came-end.new.writer)) None o.waiting t.0 false t.1 t.2 conn.next t.7.0
             o.run o.goes_on t.4 t.3 (t.5 ∙ c.in_default.is) t.7.2 t.7.1,
         (
           (
             c.came-end.new.self,
             here,
-            keys_kept g.P.Port.takes g.P.Port.refuses (submissions t.1) (intake c.args.lane.now x.conn (g.C.Counter.counted c.args.counts.now)) (intake c.came-end.new.lane conn (g.C.Counter.counted c.came-end.new.counts)) t.7.3,
+            keys_kept g.ShardPort.Port.takes g.ShardPort.Port.refuses (submissions t.1) (intake c.args.lane.now x.conn (g.Ledger.Counter.counted c.args.counts.now)) (intake c.came-end.new.lane conn (g.Ledger.Counter.counted c.came-end.new.counts)) t.7.3,
           ),
           λ other ne. c.insert_reserved.ensures.updates.others other (λ e. ne (e ∙ place)) ∙ c.remove-exchange.ensures.updates.others other ne,
         ),

@@ -6,6 +6,6 @@ use Rattle.lane_worker.proofs.lane_worker.serve_all.Given as goal
 -- what is served from here on is, with what was served so far, all that is served
 abbrev pub invariant-loop : goal.invariant-loop
 invariant-loop g l = (queues l.lane.ports ≡ queues l.fn.lane.ports)
-    × ((acceptor : g.row.F.Denot) (after : LaneAt) (is_full : Bool)
-    → HasServed g.F.Acceptor.gives (λ x. connection (g.F.Reader.Source.given x.0) (g.F.Writer.Write.contents x.1)) g.C.Room.capacity l.acceptor (lane_at l.lane (g.K.Counter.counted l.counter)) acceptor after is_full
-    → HasServed g.F.Acceptor.gives (λ x. connection (g.F.Reader.Source.given x.0) (g.F.Writer.Write.contents x.1)) g.C.Room.capacity l.fn.acceptor (lane_at l.fn.lane (g.K.Counter.counted l.fn.counter)) acceptor after is_full)
+    × ((acceptor : g.row.Listener.Denot) (after : LaneAt) (is_full : Bool)
+    → HasServed g.Listener.Acceptor.gives (λ x. connection (g.Listener.Reader.Source.given x.0) (g.Listener.Writer.Write.contents x.1)) g.QueueRoom.Room.capacity l.acceptor (lane_at l.lane (g.Ledger.Counter.counted l.counter)) acceptor after is_full
+    → HasServed g.Listener.Acceptor.gives (λ x. connection (g.Listener.Reader.Source.given x.0) (g.Listener.Writer.Write.contents x.1)) g.QueueRoom.Room.capacity l.fn.acceptor (lane_at l.fn.lane (g.Ledger.Counter.counted l.fn.counter)) acceptor after is_full)

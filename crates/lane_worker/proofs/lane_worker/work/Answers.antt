@@ -7,7 +7,7 @@ use Rattle.lane_worker.proofs.lane_worker.work.Goals as goal
 
 pub returns-clause-works : goal.returns-clause-works
 returns-clause-works g c =
-    (lane_at c.serve_all-is_full.new.lane (g.K.Counter.counted c.serve_all-is_full.new.counter), c.serve_all-is_full.ensures.served, refl, c.end_all-senders.ensures ∙ ap (map (with_end c.args.task.number)) c.end.ensures.ports)
+    (lane_at c.serve_all-is_full.new.lane (g.Ledger.Counter.counted c.serve_all-is_full.new.counter), c.serve_all-is_full.ensures.served, refl, c.end_all-senders.ensures ∙ ap (map (with_end c.args.task.number)) c.end.ensures.ports)
 
 pub returns-clause-same_queues : goal.returns-clause-same_queues
 returns-clause-same_queues g c = ap queues c.end_all-senders.ensures ∙ (queues_end c.args.task.number c.end.result.ports.items ∙ (ap queues c.end.ensures.ports ∙ c.serve_all-is_full.ensures.same_queues))

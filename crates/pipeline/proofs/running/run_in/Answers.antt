@@ -11,5 +11,5 @@ pub returns-in-Ok-run_over-clause-ran : goal.returns-in-Ok-run_over-clause-ran
 returns-in-Ok-run_over-clause-ran g c =
     let answer = c.answer_of-answer.ensures in
     let down = subst (λ down. TellsSink down c.answer_of-answer.result) c.is_down.ensures answer.sink in
-    worked_tells g.V.LaneServer.serves g.T.Ticks.gives c.args.config.now c.args.servers.items c.args.ticks c.args.exporter c.in-Ok-run_over.exporter
+    worked_tells g.Server.LaneServer.serves g.TickSource.Ticks.gives c.args.config.now c.args.servers.items c.args.ticks c.args.exporter c.in-Ok-run_over.exporter
     c.in-Ok-run_over.counted.counts.items c.in-Ok-run_over.counted.is_full c.in-Ok-run_over.ensures.worked c.answer_of-answer.result down answer.counts

@@ -28,28 +28,28 @@ returns-in-Ok-run_team-clause-sink g c =
     let took = c.takes_handed_lines.ensures _ _ _ handed.2 in
     went _ _ _ c.requires.new_exporter.3 took
 
-pub run_team-requires-send-J : goal.run_team-requires-send-J
-run_team-requires-send-J g c κs within =
-    let acceptor : IsSend (param 0 g.row.V) = record { owned = c.type_bounds.send-V.owned; leaving = c.type_bounds.send-V.leaving } in
-    param_send _ _ (arg_send _ no _ (lane_job_send _ (param 0 g.row.V) (param 6 g.row.C) (param 3 g.row.G) (param 4 g.row.P) (param 5 g.row.M) (param 8 g.row.R) g.C.Room acceptor c.type_bounds.sync-G c.type_bounds.sync-P c.type_bounds.sync-M c.type_bounds.sync-R))
+pub run_team-requires-send-First : goal.run_team-requires-send-First
+run_team-requires-send-First g c κs within =
+    let acceptor : IsSend (param 0 g.row.Server) = record { owned = c.type_bounds.send-Server.owned; leaving = c.type_bounds.send-Server.leaving } in
+    param_send _ _ (arg_send _ no _ (lane_job_send _ (param 0 g.row.Server) (param 6 g.row.QueueRoom) (param 3 g.row.Observer) (param 4 g.row.Mark) (param 5 g.row.Time) (param 8 g.row.Runtime) g.QueueRoom.Room acceptor c.type_bounds.sync-Observer c.type_bounds.sync-Mark c.type_bounds.sync-Time c.type_bounds.sync-Runtime))
 
-pub run_team-requires-send-K : goal.run_team-requires-send-K
-run_team-requires-send-K g c κs within = param_send _ _ (arg_send _ no _ (ticker_job_send _ _ _ _ _ c.type_bounds.send-T c.type_bounds.sync-R))
+pub run_team-requires-send-Second : goal.run_team-requires-send-Second
+run_team-requires-send-Second g c κs within = param_send _ _ (arg_send _ no _ (ticker_job_send _ _ _ _ _ c.type_bounds.send-TickSource c.type_bounds.sync-Runtime))
 
-pub run_team-requires-send-L : goal.run_team-requires-send-L
-run_team-requires-send-L g c κs within = param_send _ _ (arg_send _ no _ (shard_job_send _ (param 6 g.row.C) (param 7 g.row.D) (param 3 g.row.G) (param 8 g.row.R) g.C.Room g.D.Room c.type_bounds.sync-G c.type_bounds.sync-R))
+pub run_team-requires-send-Third : goal.run_team-requires-send-Third
+run_team-requires-send-Third g c κs within = param_send _ _ (arg_send _ no _ (shard_job_send _ (param 6 g.row.QueueRoom) (param 7 g.row.ExportRoom) (param 3 g.row.Observer) (param 8 g.row.Runtime) g.QueueRoom.Room g.ExportRoom.Room c.type_bounds.sync-Observer c.type_bounds.sync-Runtime))
 
-pub run_team-requires-send-J-Left : goal.run_team-requires-send-J-Left
-run_team-requires-send-J-Left g c κs within = param_send _ _ (arg_send _ yes _ (lane_left_send (param 6 g.row.C) g.C.Room))
+pub run_team-requires-send-First-Left : goal.run_team-requires-send-First-Left
+run_team-requires-send-First-Left g c κs within = param_send _ _ (arg_send _ yes _ (lane_left_send (param 6 g.row.QueueRoom) g.QueueRoom.Room))
 
-pub run_team-requires-send-K-Left : goal.run_team-requires-send-K-Left
-run_team-requires-send-K-Left g c κs within = param_send _ _ (arg_send _ yes _ (ends_send (param 6 g.row.C) g.C.Room))
+pub run_team-requires-send-Second-Left : goal.run_team-requires-send-Second-Left
+run_team-requires-send-Second-Left g c κs within = param_send _ _ (arg_send _ yes _ (ends_send (param 6 g.row.QueueRoom) g.QueueRoom.Room))
 
-pub run_team-requires-send-L-Left : goal.run_team-requires-send-L-Left
-run_team-requires-send-L-Left g c κs within = param_send _ _ (arg_send _ no _ (shard_left_send _ (param 6 g.row.C) (param 7 g.row.D) (param 8 g.row.R) g.C.Room g.D.Room c.type_bounds.sync-R))
+pub run_team-requires-send-Third-Left : goal.run_team-requires-send-Third-Left
+run_team-requires-send-Third-Left g c κs within = param_send _ _ (arg_send _ no _ (shard_left_send _ (param 6 g.row.QueueRoom) (param 7 g.row.ExportRoom) (param 8 g.row.Runtime) g.QueueRoom.Room g.ExportRoom.Room c.type_bounds.sync-Runtime))
 
 -- what all were given
-abbrev given_of : (g : Over) → After-add g → Given g.row.V.Denot g.row.T.Denot
+abbrev given_of : (g : Over) → After-add g → Given g.row.Server.Denot g.row.TickSource.Denot
 given_of g c = record {
   acceptors = map (λ j. j.acceptor) c.in-Ok.made.team.first.items;
   ticks = c.in-Ok.made.team.second.ticks;
@@ -70,8 +70,8 @@ left_of g c = record {
 }
 
 -- all did what they promise
-all_done : (g : Over) (c : After-add g) → Done g.V.LaneServer.serves g.T.Ticks.gives (settings_for (core_of c.args.config.now) (c.args.config.now.lanes + 1)) (nodes_of c.args.config.now)
-    c.args.config.now.keeps_doubles g.C.Room.capacity c.args.config.now.lanes c.args.config.now.shards (given_of g c) (left_of g c)
+all_done : (g : Over) (c : After-add g) → Done g.Server.LaneServer.serves g.TickSource.Ticks.gives (settings_for (core_of c.args.config.now) (c.args.config.now.lanes + 1)) (nodes_of c.args.config.now)
+    c.args.config.now.keeps_doubles g.QueueRoom.Room.capacity c.args.config.now.lanes c.args.config.now.shards (given_of g c) (left_of g c)
 all_done g c =
     let made = c.in-Ok.made in
     let e = c.in-Ok.ensures in
@@ -92,10 +92,10 @@ all_done g c =
       new_batch = c.requires.new_exporter.0;
       up = c.requires.new_exporter.3;
       exporter_ends = c.requires.exporter_ends;
-      lanes_did = lanes_did g.V.LaneServer.serves c.args.config.now.keeps_doubles g.C.Room.capacity (λ j. j.number) (λ j. j.acceptor) (λ j. j.lane)
+      lanes_did = lanes_did g.Server.LaneServer.serves c.args.config.now.keeps_doubles g.QueueRoom.Room.capacity (λ j. j.number) (λ j. j.acceptor) (λ j. j.lane)
           (λ l. record { senders = l.senders.items; counted = l.counts; is_full = l.is_full }) _ (λ j l h. h) 0 made.team.first.items c.in-Ok-run_team.left.first.items e.numbers.0
           (all_both (λ j. (j.lane.number ≡ j.number) × (j.room.items ≡ []) × (length j.lane.ports ≤ vec_capacity j.room)) (λ j. (j.lane.connected ≡ 0) × (j.lane.keeps_doubles ≡ c.args.config.now.keeps_doubles)) (λ j. (j.lane.number ≡ j.number) × (j.lane.connected ≡ 0) × (j.lane.keeps_doubles ≡ c.args.config.now.keeps_doubles)) made.team.first.items (λ j h k. (h.0, k.0, k.1)) e.lanes.1 e.new_lanes) ran.first;
-      ticker_did = subst (λ n. TickerDid g.T.Ticks.gives n made.team.second.ticks made.team.second.senders.items c.in-Ok-run_team.left.second.items) e.ticker.0 ran.second;
+      ticker_did = subst (λ n. TickerDid g.TickSource.Ticks.gives n made.team.second.ticks made.team.second.senders.items c.in-Ok-run_team.left.second.items) e.ticker.0 ran.second;
       shards_did = shards_did (settings_for (core_of c.args.config.now) (c.args.config.now.lanes + 1)) (λ j. j.number) (λ j. record { seat = j.seat; receiver = j.receiver; sender = j.sender }) (λ j. settings j.shard)
           (λ l. record { seat = l.seat; receiver = l.receiver; sender = l.sender; counted = l.counts; is_full = l.is_full }) _ (λ j l h. h) 0 third c.in-Ok-run_team.left.third.items e.numbers.1 e.new_shards ran.third;
       exporter_did = ran.main;
@@ -151,14 +151,14 @@ returns-in-Ok-run_team-clause-worked g c =
     let first = c.in-Ok-run_team.left.first.items in
     let third = c.in-Ok-run_team.left.third.items in
     let joined = c.join_all.ensures in
-    let all = worked _ _ _ _ _ _ _ _ (given_of g b) left g.D.Room.capacity (all_done g b)
-    (subst (λ z. HaveHistories g.C.Room.capacity z (map (λ x. x.receiver) left.shards)) (columns_are g b) (subst (λ z. HaveHistories g.C.Room.capacity (ends_of c.push_reserved.new.self.items) z) (receivers_are g b) joined.items))
-    (subst (λ z. (place : ℕ) → place < length left.exporter.receiver.ends → HasHistoryAt g.D.Room.capacity z left.exporter.receiver.ends place) (exports_are g b) joined.shipments)
+    let all = worked _ _ _ _ _ _ _ _ (given_of g b) left g.ExportRoom.Room.capacity (all_done g b)
+    (subst (λ z. HaveHistories g.QueueRoom.Room.capacity z (map (λ x. x.receiver) left.shards)) (columns_are g b) (subst (λ z. HaveHistories g.QueueRoom.Room.capacity (ends_of c.push_reserved.new.self.items) z) (receivers_are g b) joined.items))
+    (subst (λ z. (place : ℕ) → place < length left.exporter.receiver.ends → HasHistoryAt g.ExportRoom.Room.capacity z left.exporter.receiver.ends place) (exports_are g b) joined.shipments)
     (subst HaveOneHistoryEach (seats_are g b) joined.seats) in record {
       given = given_of g b;
       left = left;
-      worked = subst (λ n. Worked g.V.LaneServer.serves g.T.Ticks.gives (settings_for (core_of c.args.config.now) (c.args.config.now.lanes + 1)) (nodes_of c.args.config.now) c.args.config.now.keeps_doubles n c.args.config.now.export_capacity c.args.config.now.lanes c.args.config.now.shards (given_of g b) left) (sym c.requires.runs.1)
-          (subst (λ n. Worked g.V.LaneServer.serves g.T.Ticks.gives (settings_for (core_of c.args.config.now) (c.args.config.now.lanes + 1)) (nodes_of c.args.config.now) c.args.config.now.keeps_doubles g.C.Room.capacity n c.args.config.now.lanes c.args.config.now.shards (given_of g b) left) (sym c.requires.runs.2) all);
+      worked = subst (λ n. Worked g.Server.LaneServer.serves g.TickSource.Ticks.gives (settings_for (core_of c.args.config.now) (c.args.config.now.lanes + 1)) (nodes_of c.args.config.now) c.args.config.now.keeps_doubles n c.args.config.now.export_capacity c.args.config.now.lanes c.args.config.now.shards (given_of g b) left) (sym c.requires.runs.1)
+          (subst (λ n. Worked g.Server.LaneServer.serves g.TickSource.Ticks.gives (settings_for (core_of c.args.config.now) (c.args.config.now.lanes + 1)) (nodes_of c.args.config.now) c.args.config.now.keeps_doubles g.QueueRoom.Room.capacity n c.args.config.now.lanes c.args.config.now.shards (given_of g b) left) (sym c.requires.runs.2) all);
       acceptors_are = c.in-Ok.ensures.acceptors;
       ticks_are = c.in-Ok.ensures.ticker.1;
       exporter_is = refl;

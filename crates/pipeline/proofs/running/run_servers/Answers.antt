@@ -26,14 +26,14 @@ returns-clause-ran g c = record {
   new = c.run_in-exporter.result.0;
   size = ap (λ e. e.size) c.in-Ok.ensures.made;
   first = ap (λ e. e.sink) c.in-Ok.ensures.made ∙ c.new-lines.ensures;
-  taken_is = sym (c.end-3.ensures.taken ∙ ap (λ s. s.taken) c.end-2.ensures);
-  failures_are = sym (c.end-3.ensures.failures ∙ ap (λ s. s.failures) c.end-2.ensures);
+  taken_is = sym c.end-2.ensures.taken;
+  failures_are = sym c.end-2.ensures.failures;
   tells = c.run_in-exporter.ensures.ran;
 }
 
 pub returns-in-Err-clause-ran : goal.returns-in-Err-clause-ran
 returns-in-Err-clause-ran g c =
-    let none : ExporterState = record { batch = []; size = c.args.config.send_batch_size; ends = []; sink = up_state (g.S.Sink.taken c.args.sink) (g.S.Sink.failures c.args.sink) } in record {
+    let none : ExporterState = record { batch = []; size = c.args.config.send_batch_size; ends = []; sink = up_state (g.Output.Sink.taken c.args.sink) (g.Output.Sink.failures c.args.sink) } in record {
       old = none;
       new = none;
       size = refl;

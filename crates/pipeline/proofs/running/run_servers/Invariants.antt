@@ -2,8 +2,8 @@
 -- For the call of run_in in run_servers.
 use Rattle.pipeline.proofs.running.run_servers.Given as goal
 
-abbrev pub ghosts-run_in-C-Room : goal.ghosts-run_in-C-Room
-ghosts-run_in-C-Room g a = record { capacity = a.config.now.queue_capacity }
+abbrev pub ghosts-run_in-QueueRoom-Room : goal.ghosts-run_in-QueueRoom-Room
+ghosts-run_in-QueueRoom-Room g a = record { capacity = a.config.now.queue_capacity }
 
-abbrev pub ghosts-run_in-D-Room : goal.ghosts-run_in-D-Room
-ghosts-run_in-D-Room g a = record { capacity = a.config.now.export_capacity }
+abbrev pub ghosts-run_in-ExportRoom-Room : goal.ghosts-run_in-ExportRoom-Room
+ghosts-run_in-ExportRoom-Room g a = record { capacity = a.config.now.export_capacity }

@@ -17,7 +17,7 @@ returns-in_default-clause-turn g c = λ w at since. (
   (none_between c.args.arrived.allowed Awaits c.args.self.now.engine w.reading at c.in_default.ensures.none, refl, refl),
   refl,
   (λ e. absurd cc),
-  does_none (Submits g.P.Port.takes g.P.Port.refuses) (g.W.Write.contents c.args.writer.now) (intake c.args.lane.now c.args.self.now.conn (g.C.Counter.counted c.args.counts.now)),
+  does_none (Submits g.ShardPort.Port.takes g.ShardPort.Port.refuses) (g.Writer.Write.contents c.args.writer.now) (intake c.args.lane.now c.args.self.now.conn (g.Ledger.Counter.counted c.args.counts.now)),
 )
 
 pub returns-in-Some-end-clause-turn : goal.returns-in-Some-end-clause-turn

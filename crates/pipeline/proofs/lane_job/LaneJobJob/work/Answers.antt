@@ -7,11 +7,11 @@ pub returns : goal.returns
 returns g c =
     let w = c.work-end.ensures.works in
     subst
-    (λ counts. LaneDid g.V.LaneServer.serves g.C.Room.capacity c.args.self.number c.args.self.acceptor c.args.self.lane zeros c.work-end.result.senders.items
+    (λ counts. LaneDid g.Server.LaneServer.serves g.QueueRoom.Room.capacity c.args.self.number c.args.self.acceptor c.args.self.lane zeros c.work-end.result.senders.items
     counts c.work-end.result.is_full)
     (sym c.end-report.ensures)
     (subst
-    (λ counts. LaneDid g.V.LaneServer.serves g.C.Room.capacity c.args.self.number c.args.self.acceptor c.args.self.lane counts c.work-end.result.senders.items
+    (λ counts. LaneDid g.Server.LaneServer.serves g.QueueRoom.Room.capacity c.args.self.number c.args.self.acceptor c.args.self.lane counts c.work-end.result.senders.items
     c.work-end.new.counter.report c.work-end.result.is_full)
     c.new-counts.ensures
     (record {

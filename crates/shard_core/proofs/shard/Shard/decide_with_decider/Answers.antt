@@ -75,7 +75,7 @@ due_found : (g : Over) (c : goal.After-decided g) → find (is_due_at c.due_by-m
 due_found g c = sym c.next_due.ensures ∙ ap option_copied c.in-Some.is
 
 abbrev new_held : (g : Over) (c : goal.After-decided g) → Held
-new_held g c = let i = c.self.inside in held_of i.policies i.decision_wait i.root_wait i.maximum_trace_size c.settle-spans.new.self i.cache i.clock i.mark i.ends.items
+new_held g c = let i = c.self.inside in held_of i.policies i.waits c.settle-spans.new.self i.cache i.clock i.mark i.ends.items
 
 settles : (g : Over) (c : goal.After-decided g) → SettlesFirst (the_view c.self.inside) c.due_by-mark.result.0 c.due_by-mark.result.1 c.due_by-mark.result.2 c.decide_on-verdict.ensures.evaluates.0 c.decided.result (new_held g c)
 settles g c = λ e f.
@@ -89,7 +89,7 @@ settles g c = λ e f.
     let R = λ (ms : List Arrival). Releases c.decided.result ms v in
     let released : c.settle-spans.result.items ≡ e.spans = cc (c.settle-spans.ensures.spans ∙ ap (option_map (λ (y : Episode). y.spans)) f) in
     let V = λ (x : Verdict). Releases c.decided.result e.spans x in
-    let put = λ (b : Buffer). held_of i.policies i.decision_wait i.root_wait i.maximum_trace_size b i.cache i.clock i.mark i.ends.items in
+    let put = λ (b : Buffer). held_of i.policies i.waits b i.cache i.clock i.mark i.ends.items in
     (subst V verdict (subst R released c.decided.ensures), ap put c.settle-spans.ensures.after ∙ ap (λ (x : Verdict). put (with_settled d.0 d.1 d.2 x i.buffer)) verdict)
 
 pub returns-clause-decides : goal.returns-clause-decides

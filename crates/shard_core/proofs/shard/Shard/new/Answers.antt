@@ -9,7 +9,7 @@ use Rattle.shard_core.proofs.shard.Shard.new.Goals as goal
 pub returns-in-Ok-clause-stands : goal.returns-in-Ok-clause-stands
 returns-in-Ok-clause-stands c =
     let made = c.in-Ok.ensures in
-    new_stands c.args.policies c.args.setup.decision_wait c.args.setup.root_wait c.args.setup.maximum_trace_size c.args.setup.senders c.in-Ok.buffer c.in-Ok.cache c.in-Ok.ends.items (ap (λ (b : Buffer). b.episodes) made.buffer)
+    new_stands c.args.policies c.args.setup.waits c.args.setup.senders c.in-Ok.buffer c.in-Ok.cache c.in-Ok.ends.items (ap (λ (b : Buffer). b.episodes) made.buffer)
     (ap (λ (l : CacheLists). l.sampled.traces) made.cache) (ap (λ (l : CacheLists). l.not_sampled.traces) made.cache) made.ends
 
 pub returns-in-Ok-clause-running : goal.returns-in-Ok-clause-running

@@ -12,8 +12,8 @@ use Rattle.shard_core.proofs.Effects.{take_released, take_dropped}
 use Rattle.shard_core.proofs.Fates.{tells_fate}
 use Rattle.shard_core.proofs.shard.Shard.take.Goals as goal
 
-wait_of : (c : goal.After-take_span) → 0 < c.args.self.now.decision_wait
-wait_of c = let P = λ (h : Held). 0 < h.decision_wait in subst P c.self.view_is c.self.invariant.0
+wait_of : (c : goal.After-take_span) → 0 < c.args.self.now.waits.decision_wait
+wait_of c = let P = λ (h : Held). 0 < h.waits.decision_wait in subst P c.self.view_is c.self.invariant.0
 
 limit_of : (c : goal.After-take_span) → 0 < c.args.self.now.num_traces
 limit_of c = let P = λ (h : Held). 0 < h.num_traces in subst P c.self.view_is c.self.invariant.1
@@ -38,7 +38,7 @@ returns-in-Span-clause-marks c = λ past k s. (span_facts c past k s).2
 pub returns-in-Tick-clause-stands : goal.returns-in-Tick-clause-stands
 returns-in-Tick-clause-stands c = λ past k s.
     let P = λ (i : Item). StandsFor c.take_tick.new.self (entry i c.take_tick.result ∷ past) 0 in
-    let Q = λ (h : Held). 0 < h.decision_wait in
+    let Q = λ (h : Held). 0 < h.waits.decision_wait in
     let L = λ (h : Held). 0 < h.num_traces in
     let R = λ (h : Held). StandsFor h (entry (Tick c.in-Tick.moment) Ticked ∷ past) 0 in
     let T = λ (t : Taken). StandsFor c.take_tick.new.self (entry (Tick c.in-Tick.moment) t ∷ past) 0 in
@@ -48,7 +48,7 @@ returns-in-Tick-clause-stands c = λ past k s.
 pub returns-in-End-clause-stands : goal.returns-in-End-clause-stands
 returns-in-End-clause-stands c = λ past k s.
     let P = λ (i : Item). StandsFor c.take_end.new.self (entry i c.take_end.result ∷ past) 0 in
-    let Q = λ (h : Held). 0 < h.decision_wait in
+    let Q = λ (h : Held). 0 < h.waits.decision_wait in
     let L = λ (h : Held). 0 < h.num_traces in
     let R = λ (h : Held). StandsFor h (entry (End c.in-End.sender) c.take_end.result ∷ past) 0 in
     let g = ready c.args.self.now past k (subst Q c.self.view_is c.self.invariant.0) (subst L c.self.view_is c.self.invariant.1) c.requires.nothing_due c.requires.running s in
@@ -57,7 +57,7 @@ returns-in-End-clause-stands c = λ past k s.
 end_facts : (c : goal.After-take_end) (past : Journal) (k : ℕ) → StandsFor c.args.self.now past k → c.take_end.result ≡ answer_to (settings c.args.self.now) (entry c.args.item c.take_end.result) past
 end_facts c past k s =
     let P = λ (i : Item). c.take_end.result ≡ answer_to (settings c.args.self.now) (entry i c.take_end.result) past in
-    let Q = λ (h : Held). 0 < h.decision_wait in
+    let Q = λ (h : Held). 0 < h.waits.decision_wait in
     let L = λ (h : Held). 0 < h.num_traces in
     let g = ready c.args.self.now past k (subst Q c.self.view_is c.self.invariant.0) (subst L c.self.view_is c.self.invariant.1) c.requires.nothing_due c.requires.running s in
     subst P (sym c.in-End.is) (c.take_end.ensures.answer ∙ ap (λ (h : Held). if is_finished h then Finished else Ended) c.take_end.ensures.after ∙ end-answer c.args.self.now c.in-End.sender c.take_end.result past k (subst L c.self.view_is c.self.invariant.1) g)
@@ -67,13 +67,13 @@ returns-in-End-clause-answer c = λ past k s. end_facts c past k s
 
 pub returns-in-End-clause-released : goal.returns-in-End-clause-released
 returns-in-End-clause-released c = λ past k s.
-    let Q = λ (h : Held). 0 < h.decision_wait in
+    let Q = λ (h : Held). 0 < h.waits.decision_wait in
     let L = λ (h : Held). 0 < h.num_traces in
     take_released c.args.self.now c.args.item c.take_end.result past k (subst Q c.self.view_is c.self.invariant.0) (subst L c.self.view_is c.self.invariant.1) c.requires.nothing_due s (end_facts c past k s)
 
 pub returns-in-End-clause-dropped : goal.returns-in-End-clause-dropped
 returns-in-End-clause-dropped c = λ past k reason s.
-    let Q = λ (h : Held). 0 < h.decision_wait in
+    let Q = λ (h : Held). 0 < h.waits.decision_wait in
     let L = λ (h : Held). 0 < h.num_traces in
     take_dropped c.args.self.now c.args.item c.take_end.result past k reason (subst Q c.self.view_is c.self.invariant.0) (subst L c.self.view_is c.self.invariant.1) c.requires.nothing_due s (end_facts c past k s)
 
@@ -90,13 +90,13 @@ tick_answer c past =
 
 pub returns-in-Tick-clause-released : goal.returns-in-Tick-clause-released
 returns-in-Tick-clause-released c = λ past k s.
-    let Q = λ (h : Held). 0 < h.decision_wait in
+    let Q = λ (h : Held). 0 < h.waits.decision_wait in
     let L = λ (h : Held). 0 < h.num_traces in
     take_released c.args.self.now c.args.item c.take_tick.result past k (subst Q c.self.view_is c.self.invariant.0) (subst L c.self.view_is c.self.invariant.1) c.requires.nothing_due s (tick_answer c past)
 
 pub returns-in-Tick-clause-dropped : goal.returns-in-Tick-clause-dropped
 returns-in-Tick-clause-dropped c = λ past k reason s.
-    let Q = λ (h : Held). 0 < h.decision_wait in
+    let Q = λ (h : Held). 0 < h.waits.decision_wait in
     let L = λ (h : Held). 0 < h.num_traces in
     take_dropped c.args.self.now c.args.item c.take_tick.result past k reason (subst Q c.self.view_is c.self.invariant.0) (subst L c.self.view_is c.self.invariant.1) c.requires.nothing_due s (tick_answer c past)
 

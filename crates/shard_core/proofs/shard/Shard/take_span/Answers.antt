@@ -57,13 +57,13 @@ invariant_of-self-in-None-ask c =
     let now = c.max-self-inside.result in
     let ids = c.unwrap-ids.result in
     let a = ask_keeps now i.buffer ids.trace i.cache c.ask.new.self c.ask.ensures.lists (kept (goal.at.invariant_of-self-in-None-ask c).After-find) in
-    let P = λ (o : Option Ids). Opened i.buffer c.args.arrival o now i.maximum_trace_size c.open.result c.open.new.buffer in
+    let P = λ (o : Option Ids). Opened i.buffer c.args.arrival o now i.waits.maximum_trace_size c.open.result c.open.new.buffer in
     let is_opened = subst P (sym c.ids_of.ensures ∙ c.unwrap-ids.ensures) c.open.ensures.opened in
     let none = no_episode (episode_of ids.trace i.buffer.episodes) (sym c.find.ensures ∙ c.in-None.is) in
     let nothing = asked-nothing ids.trace i.cache (sym c.ask.ensures.verdict ∙ c.in-None-ask.is) in
     let out = λ (l : CacheLists). is_held_in_either ids.trace l ≡ false in
-    let r = opening_keeps now i.maximum_trace_size i.buffer c.open.new.buffer c.ask.new.self c.opened.new.cache c.args.arrival ids c.opened.result c.open.result is_opened c.opened.ensures none (subst out (sym (c.ask.ensures.lists ∙ nothing.1)) nothing.0) a in
-    (inv.0, r.0, opening_spans now i.maximum_trace_size i.buffer c.open.new.buffer c.args.arrival ids c.open.result is_opened inv.2, r.1, r.2, inv.5)
+    let r = opening_keeps now i.waits.maximum_trace_size i.buffer c.open.new.buffer c.ask.new.self c.opened.new.cache c.args.arrival ids c.opened.result c.open.result is_opened c.opened.ensures none (subst out (sym (c.ask.ensures.lists ∙ nothing.1)) nothing.0) a in
+    (inv.0, r.0, opening_spans now i.waits.maximum_trace_size i.buffer c.open.new.buffer c.args.arrival ids c.open.result is_opened inv.2, r.1, r.2, inv.5)
 
 pub returns-in-None-ask-clause-takes : goal.returns-in-None-ask-clause-takes
 returns-in-None-ask-clause-takes c =
@@ -72,15 +72,15 @@ returns-in-None-ask-clause-takes c =
     let now = c.max-self-inside.result in
     let ids = c.unwrap-ids.result in
     let by : a.rec.span.ids ≡ Some ids = sym c.ids_of.ensures ∙ c.unwrap-ids.ensures in
-    let P = λ (o : Option Ids). Opened i.buffer a o now i.maximum_trace_size c.open.result c.open.new.buffer in
-    let N = λ (n : ℕ). Opened i.buffer a (Some ids) n i.maximum_trace_size c.open.result c.open.new.buffer in
+    let P = λ (o : Option Ids). Opened i.buffer a o now i.waits.maximum_trace_size c.open.result c.open.new.buffer in
+    let N = λ (n : ℕ). Opened i.buffer a (Some ids) n i.waits.maximum_trace_size c.open.result c.open.new.buffer in
     let is_opened = subst N c.max-self-inside.ensures (subst P by c.open.ensures.opened) in
     let unasked = sym c.ask.ensures.verdict ∙ c.in-None-ask.is in
     let same : c.ask.new.self ≡ i.cache = c.ask.ensures.lists ∙ (asked-nothing ids.trace i.cache unasked).1 in
-    let T = opening_takes i.policies i.decision_wait i.root_wait i.maximum_trace_size i.buffer i.cache i.clock i.mark i.ends.items a ids c.opened.result c.open.result (sym c.find.ensures ∙ c.in-None.is) unasked
+    let T = opening_takes i.policies i.waits i.buffer i.cache i.clock i.mark i.ends.items a ids c.opened.result c.open.result (sym c.find.ensures ∙ c.in-None.is) unasked
     c.open.new.buffer c.ask.new.self c.opened.new.cache same is_opened c.opened.ensures in
-    let C = λ (n : ℕ). TakesSpanOf (the_view i) a ids.trace c.opened.result (held_of i.policies i.decision_wait i.root_wait i.maximum_trace_size c.open.new.buffer c.opened.new.cache n i.mark i.ends.items) in
+    let C = λ (n : ℕ). TakesSpanOf (the_view i) a ids.trace c.opened.result (held_of i.policies i.waits c.open.new.buffer c.opened.new.cache n i.mark i.ends.items) in
     let there = subst C (sym c.max-self-inside.ensures) T in
-    let V = λ (h : Held). TakesSpanOf h a ids.trace c.opened.result (held_of i.policies i.decision_wait i.root_wait i.maximum_trace_size c.open.new.buffer c.opened.new.cache now i.mark i.ends.items) in
-    let O = λ (o : Option Ids). TakesSpan c.args.self.now a o c.opened.result (held_of i.policies i.decision_wait i.root_wait i.maximum_trace_size c.open.new.buffer c.opened.new.cache now i.mark i.ends.items) in
+    let V = λ (h : Held). TakesSpanOf h a ids.trace c.opened.result (held_of i.policies i.waits c.open.new.buffer c.opened.new.cache now i.mark i.ends.items) in
+    let O = λ (o : Option Ids). TakesSpan c.args.self.now a o c.opened.result (held_of i.policies i.waits c.open.new.buffer c.opened.new.cache now i.mark i.ends.items) in
     subst O (sym by) (subst V c.self.view_is there)

@@ -11,13 +11,13 @@ returns-in-Ok g c =
     let worked = c.work_and_join.ensures in
     let left = c.work_and_join.result.0 in
     let all = on_ok c.start_team-handles.result.1 _ c.in-Ok.ensures.all begun.all in
-    let first : HaveDone g.J.Job.did team.first.items left.first.items = subst (λ l. HaveDone g.J.Job.did l left.first.items) (all_started _ _ _ begun.first all.0) worked.first in
-    let third : HaveDone g.L.Job.did team.third.items left.third.items = subst (λ l. HaveDone g.L.Job.did l left.third.items) (all_started _ _ _ begun.third all.2) worked.third in
+    let first : HaveDone g.First.Job.did team.first.items left.first.items = subst (λ l. HaveDone g.First.Job.did l left.first.items) (all_started _ _ _ begun.first all.0) worked.first in
+    let third : HaveDone g.Third.Job.did team.third.items left.third.items = subst (λ l. HaveDone g.Third.Job.did l left.third.items) (all_started _ _ _ begun.third all.2) worked.third in
     record {
-      did = ((first, one_did (λ h. h.promise.job.value) g.K.Job.did handles.second team.second left.second all.1 begun.second worked.second, third), worked.main);
+      did = ((first, one_did (λ h. h.promise.job.value) g.Second.Job.did handles.second team.second left.second all.1 begun.second worked.second, third), worked.main);
       counts = (
-        omega (arith, left.first.ok.0, team.first.ok.0, as_many g.J.Job.did team.first.items left.first.items first),
-        omega (arith, left.third.ok.0, team.third.ok.0, as_many g.L.Job.did team.third.items left.third.items third),
+        omega (arith, left.first.ok.0, team.first.ok.0, as_many g.First.Job.did team.first.items left.first.items first),
+        omega (arith, left.third.ok.0, team.third.ok.0, as_many g.Third.Job.did team.third.items left.third.items third),
       );
       back = search rules;
     }

@@ -1,5 +1,5 @@
--- Worked rows of a configuration's settings, by computation. No clause needs them: they show what `settings_by` says,
--- which code and contracts follow. No contract rests on it: it shows the definitions on worked cases.
+-- Worked rows of the settings of a configuration's shards, by computation. No clause needs them: they show what
+-- `settings_by` says, which code and contracts follow.
 use Rattle.std.specs.Prelude.{[], ◌∷◌, Some, ◌≡◌, refl}
 use Rattle.tsc_config.specs.declared.config.Config.{Config}
 use Rattle.config_shards.specs.Shards.{settings_by}
