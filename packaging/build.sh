@@ -1,13 +1,14 @@
 #!/usr/bin/env bash
-# Makes the Debian package tsc_VERSION-REVISION_amd64.deb of the proved program, by Debian's own tools (apt-get install build-essential debhelper).
+# Makes the Debian package conchpewter_VERSION-REVISION_amd64.deb of the proved program, by Debian's own tools (apt-get install build-essential
+# debhelper), and beside it tsc_VERSION-REVISION_all.deb, which has nothing and leads those who have the package by its former name to it.
 #     packaging/build.sh [--program PATH] [--revision N] [FOLDER]
-# PATH is a program in place of the proved one, which ./build leaves at crates/collector_main/out/collector_main; FOLDER gets the package
+# PATH is a program in place of the proved one, which ./build leaves at crates/collector_main/out/collector_main; FOLDER gets the packages
 # (default: packaging/out). The version is what the program prints, and must be the newest one of CHANGELOG.md.
 set -eu -o pipefail
 here=$(cd "$(dirname "$0")" && pwd)
 top=$(dirname "$here")
 program=$top/crates/collector_main/out/collector_main
-revision=1
+revision=2
 folder=$here/out
 while [ $# -gt 0 ]; do
     case $1 in
@@ -22,14 +23,22 @@ version=$("$program" version)
 version=${version#tsc }
 room=$(mktemp -d)
 trap 'rm -rf "$room"' EXIT
-tree=$room/tsc
+tree=$room/conchpewter
 mkdir -p "$tree" "$folder"
 cp -R "$here/debian" "$here/pages" "$top/docs" "$top/examples" "$top/README.md" "$top/CHANGELOG.md" "$tree"
-cp "$top/examples/serve.toml" "$tree/serve.toml"
-install -m 755 "$program" "$tree/tsc"
+cp "$here/launcher/tsc-run.c" "$tree"
+mv "$tree/pages/tsc.1" "$tree/pages/conchpewter.1"
+"$here/configuration.sh" > "$tree/serve.toml"
+# The unit of further instances, tsc@NAME, is that of the service with other names.
+unit=$tree/debian/conchpewter.tsc.service
+sed -e 's|/serve\.toml|/%i.toml|g; s|traces\.jsonl|%i.jsonl|; s/^RuntimeDirectory=tsc$/&-%i/; s/^User=tsc$/&-%i/; s|^Description=.*|& (%i)|; s|/run/tsc\.|/run/tsc-NAME.|' \
+    "$unit" > "$tree/debian/conchpewter@.tsc.service"
+install -m 755 "$program" "$tree/conchpewter"
 "$here/pages.py" --changelog "$revision" > "$tree/debian/changelog"
 named=$(dpkg-parsechangelog -l "$tree/debian/changelog" -S Version)
 [ "$named" = "$version-$revision" ] || { echo "packaging/build.sh: the program says version $version, CHANGELOG.md ${named%-*}" >&2; exit 2; }
 (cd "$tree" && dpkg-buildpackage -b --no-sign) > "$room/log" 2>&1 || { tail -n 40 "$room/log" >&2; exit 1; }
-cp "$room/tsc_${named}_amd64.deb" "$folder"
-echo "$folder/tsc_${named}_amd64.deb"
+for it in "conchpewter_${named}_amd64.deb" "tsc_${named}_all.deb"; do
+    cp "$room/$it" "$folder"
+    echo "$folder/$it"
+done

@@ -128,7 +128,7 @@ def command_page():
     )
     return page(
         "TSC", 1, "User commands",
-        [".SH NAME", "tsc \\- a tail\\-sampling trace collector", ".SH SYNOPSIS"], usage,
+        [".SH NAME", "tsc, conchpewter \\- a tail\\-sampling trace collector", ".SH SYNOPSIS"], usage,
         [".SH DESCRIPTION"], [roff(it) for it in what],
         [".SH COMMANDS"], named,
         [".SH SCRIPTS"], body(scripts.split("\n\n")[0]),
@@ -136,7 +136,19 @@ def command_page():
         [".SH THOSE IN CHARGE"], body(charge.split("`examples/neighbours/prometheus.yml`")[0].strip()),
         [".SH THE REPORT"], body(section(operating, "What the report tells")),
         [".SH FILES"], table(files.split("\n")),
-        [".SH SEE ALSO", ".BR tsc.toml (5),", ".BR systemctl (1)"],
+        [".SH SEE ALSO", ".BR tsc.toml (5),", ".BR tsc\\-run (1),", ".BR systemctl (1)"],
+    )
+
+
+def launcher_page():
+    """tsc-run(1)."""
+    signals = section(text_of("docs/OPERATING.md"), "Signals")
+    usage = [bold("tsc-run [--program PATH] CONFIG"), ".br", bold("tsc-run --health ADDRESS")]
+    return page(
+        "TSC-RUN", 1, "User commands",
+        [".SH NAME", "tsc\\-run \\- runs the trace collector tsc and closes it at a signal", ".SH SYNOPSIS"], usage,
+        [".SH DESCRIPTION"], body(signals),
+        [".SH SEE ALSO", ".BR tsc (1),", ".BR tsc.toml (5)"],
     )
 
 
@@ -160,6 +172,17 @@ def configuration_page():
     )
 
 
+def import_page():
+    """tsc-import(1)."""
+    said = section(text_of("docs/OPERATING.md"), "From a Collector's configuration")
+    return page(
+        "TSC-IMPORT", 1, "User commands",
+        [".SH NAME", "tsc\\-import \\- writes a Collector's configuration as one of tsc", ".SH SYNOPSIS", ".B tsc\\-import", "[OPTION].. COLLECTOR.yaml"],
+        [".SH DESCRIPTION"], body(without(said, "packaging/import/tsc-import")),
+        [".SH SEE ALSO", ".BR tsc (1),", ".BR tsc.toml (5)"],
+    )
+
+
 def completion():
     """The completion for bash."""
     words = [it.split(" ") for it, _ in commands()]
@@ -180,7 +203,7 @@ _tsc()
         esac
     fi
 }}
-complete -F _tsc tsc
+complete -F _tsc tsc conchpewter
 """
 
 
@@ -189,7 +212,7 @@ def debian_changelog(revision):
     version, date, says = release()
     items = [" ".join(it.split()) for it in re.split(r"^- ", says, flags=re.M)[1:]]
     at = datetime.fromisoformat(date).replace(hour=12, tzinfo=timezone.utc)
-    lines = [f"tsc ({version}-{revision}) unstable; urgency=medium", ""]
+    lines = [f"conchpewter ({version}-{revision}) unstable; urgency=medium", ""]
     for item in items:
         words, line = item.split(" "), "  *"
         for word in words:
@@ -205,7 +228,8 @@ def main():
     if sys.argv[1:2] == ["--changelog"]:
         print(debian_changelog(sys.argv[2]), end="")
         return 0
-    made = {"tsc.1": command_page(), "tsc.toml.5": configuration_page(), "tsc.bash": completion()}
+    pages = {"tsc.1": command_page(), "tsc-run.1": launcher_page(), "tsc-import.1": import_page()}
+    made = {**pages, "tsc.toml.5": configuration_page(), "tsc.bash": completion()}
     if sys.argv[1:] == ["--check"]:
         stale = [it for it, text in made.items() if not (PAGES / it).exists() or (PAGES / it).read_text("utf-8") != text]
         for it in stale:

@@ -1,8 +1,9 @@
 #!/usr/bin/env bash
-# Makes the package and tries it in a clean Debian 12 that is booted beside this one: installed, run, stopped, upgraded, removed and purged.
-# It needs root, and apt-get install build-essential debhelper lintian mmdebstrap systemd-container. No part of the gate.
+# Makes the package and tries it in a clean Debian 12 that is booted beside this one: installed, in place of the package by its former name and beside
+# Debian's node-typescript; run, stopped, upgraded, removed and purged.
+# It needs root, Debian's archive by apt-get, and apt-get install build-essential debhelper lintian mmdebstrap systemd-container. No part of the gate.
 #     packaging/test.sh [--program PATH]
-# PATH is a program in place of the proved one. The clean system is kept in ~/.cache/tsc-packaging. Its last line is 'N passed, M failed'.
+# PATH is a program in place of the proved one. The clean system and node-typescript are kept in ~/.cache/tsc-packaging. Its last line is 'N passed, M failed'.
 set -eu -o pipefail
 here=$(cd "$(dirname "$0")" && pwd)
 for it in dpkg-buildpackage dh lintian mmdebstrap systemd-nspawn systemd-analyze; do
@@ -27,24 +28,46 @@ check() {
 }
 
 passes_lintian() {
-    lintian --allow-root --fail-on error,warning "$room"/packages/tsc_*-1_amd64.deb
+    lintian --allow-root --fail-on error,warning "$room"/packages/conchpewter_*-2_amd64.deb "$room"/packages/tsc_*-2_all.deb
 }
 
 is_shut_in() {
     local exposed
-    exposed=$(systemd-analyze security --offline=true "$here/debian/tsc.service" | sed -n 's/.*Overall exposure level for tsc.service: \([0-9.]*\) .*/\1/p')
+    exposed=$(systemd-analyze security --offline=true "$here/debian/conchpewter.tsc.service" | sed -n 's/.*Overall exposure level for .*: \([0-9.]*\) .*/\1/p')
     echo "exposure $exposed"
     awk -v it="$exposed" 'BEGIN { exit !(it != "" && it <= 2.0) }'
 }
 
+# The package as it was under its former name, tsc: the program by that name, a stop command in place of the launcher, and another end of purging.
+make_former() {
+    local former=$room/former
+    dpkg-deb -R "$room"/packages/conchpewter_*-2_amd64.deb "$former"
+    mv "$former/usr/bin/conchpewter" "$former/usr/bin/tsc"
+    mv "$former/usr/share/doc/conchpewter" "$former/usr/share/doc/tsc"
+    rm -r "$former"/usr/bin/tsc-run "$former"/usr/lib "$former"/usr/share/lintian "$former"/usr/share/man "$former"/lib/systemd/system/tsc@.service \
+        "$former"/usr/share/bash-completion "$former"/DEBIAN/triggers "$former"/DEBIAN/preinst "$former"/DEBIAN/md5sums
+    cp "$here/../examples/serve.toml" "$former/etc/tsc/serve.toml"
+    sed -i -e 's/^Package: .*/Package: tsc/; s/^Version: \(.*\)-2$/Version: \1-1/; /^\(Breaks\|Replaces\):/d' "$former/DEBIAN/control"
+    sed -i '/triggered/,/^fi/d; /^# Further instances/,$d' "$former/DEBIAN/postinst"
+    sed -i '/^if \[ "$1" = remove \]/,/^fi/d' "$former/DEBIAN/prerm"
+    sed -i -e 's|^ExecStart=.*|ExecStart=/usr/bin/tsc serve /etc/tsc/serve.toml|; s|conchpewter validate|tsc validate|; /^ExecReload=/d' \
+        -e 's|^TimeoutStopSec=|ExecStop=-/bin/sh -c "exec tsc close /etc/tsc/serve.toml >\&2"\nKillSignal=SIGCONT\n&|' "$former/lib/systemd/system/tsc.service"
+    mkdir "$room/packages/former"
+    dpkg-deb --root-owner-group -b "$former" "$room/packages/former" > /dev/null
+}
+
 "$here/build.sh" "$@" "$room/packages"
-"$here/build.sh" "$@" --revision 2 "$room/packages"
-# A third one that comes with another configuration.
-dpkg-deb -R "$room"/packages/tsc_*-2_amd64.deb "$room/other"
-sed -i 's/^Version: \(.*\)-2$/Version: \1-3/' "$room/other/DEBIAN/control"
+"$here/build.sh" "$@" --revision 3 "$room/packages"
+make_former
+# A further one that comes with another configuration.
+dpkg-deb -R "$room"/packages/conchpewter_*-3_amd64.deb "$room/other"
+sed -i 's/^Version: \(.*\)-3$/Version: \1-4/' "$room/other/DEBIAN/control"
 sed -i 's/^num_traces = .*/num_traces = 200000/' "$room/other/etc/tsc/serve.toml"
-mkdir "$room/packages/other"
+mkdir "$room/packages/other" "$room/packages/foreign"
 dpkg-deb --root-owner-group -b "$room/other" "$room/packages/other" > /dev/null
+mkdir -p "$kept"
+compgen -G "$kept/node-typescript_*.deb" > /dev/null || (cd "$kept" && apt-get -qq -o APT::Sandbox::User=root download node-typescript)
+cp "$kept"/node-typescript_*.deb "$room/packages/foreign"
 
 check pages_are_up_to_date "$here/pages.py" --check
 check passes_lintian passes_lintian
@@ -52,7 +75,6 @@ check is_shut_in is_shut_in
 cat "$room/said"
 
 if [ ! -e "$kept/root.tar" ]; then
-    mkdir -p "$kept"
     mmdebstrap --quiet --variant=minbase --include=systemd,systemd-sysv,libgcc-s1,curl,man-db,mawk bookworm "$kept/part.tar"
     mv "$kept/part.tar" "$kept/root.tar"
 fi
@@ -74,7 +96,7 @@ StandardError=append:/packages/said
 UNIT
 mkdir -p "$room/root/etc/systemd/system/default.target.wants"
 ln -s /etc/systemd/system/inside.service "$room/root/etc/systemd/system/default.target.wants/inside.service"
-timeout 300 systemd-nspawn --quiet --register=no --keep-unit --private-network -D "$room/root" -b < /dev/null > "$room/boot" 2>&1 || true
+timeout 580 systemd-nspawn --quiet --register=no --keep-unit --private-network -D "$room/root" -b < /dev/null > "$room/boot" 2>&1 || true
 said=$room/root/packages/said
 [ ! -s "$said" ] || grep -v ' passed, ' "$said"
 if [[ $(tail -n 1 "$said" 2> /dev/null) =~ ^([0-9]+)\ passed,\ ([0-9]+)\ failed$ ]]; then

@@ -2,6 +2,7 @@
 
 import json
 import os
+import re
 import resource
 import signal
 import socket
@@ -101,7 +102,11 @@ class Collector:
         self.folder = tempfile.TemporaryDirectory()
         config = os.path.join(self.folder.name, "config.toml")
         with open(config, "w", encoding="utf-8") as file:
-            file.write(f'listen = "127.0.0.1:{self.port}"\n' + settings)
+            # What is said on standard error is looked at where a check asks for it.
+            log = re.search(r'^log = "(\w+)"', settings, re.M)
+            self.is_quiet = log is None or log[1] == "off"
+            quiet = "" if log else 'log = "off"\n'
+            file.write(f'listen = "127.0.0.1:{self.port}"\n' + quiet + settings)
         self.printed = os.path.join(self.folder.name, "printed")
         self.file = open(self.printed, "wb") if output is None else None
         self.process = subprocess.Popen(
@@ -144,9 +149,11 @@ class Collector:
         return self.end()
 
     def end(self, status=0):
-        """Waits for the end. Gives the span lines and the nine numbers."""
+        """Waits for the end. Gives the span lines and the nine numbers; what it said on standard error is in `said`."""
         want("the status", self.process.wait(timeout=60), status)
-        want("standard error", self.process.stderr.read(), b"")
+        self.said = self.process.stderr.read().decode()
+        if self.is_quiet:
+            want("standard error", self.said, "")
         if self.file is None:
             return None
         with open(self.printed, encoding="utf-8") as file:

@@ -36,6 +36,16 @@ check_text() {
     tell "$name" "$wrong"
 }
 
+# The same of a collector that says on standard error, too, why it can't begin: one line, an error.
+check_refusal() {
+    local name=$1 got wrong="" said
+    shift
+    compare "$@"
+    said=$(grep -c '^[-0-9]*T[0-9:.]*Z ERROR [a-z_]* ' "$work/err")
+    [ "$said" -eq 1 ] && wrong=${wrong%; it wrote to standard error} || wrong="$wrong; it says $said errors and not one"
+    tell "$name" "$wrong"
+}
+
 # Runs a command; the status that it had is put into got, and what is wrong with it into wrong.
 compare() {
     local status=$1 expected=$2 input=$3
@@ -236,9 +246,13 @@ usage() {
 
 # Help, the version, and words that stand alone or don't.
 texts() {
-    check_text "help" 0 "$top/tests/help.txt" /dev/null "$program" help
+    local word
+    for word in help -h --help; do
+        check_text "$word" 0 "$top/tests/help.txt" /dev/null "$program" "$word"
+    done
     printf 'tsc 0.1.0\n' > "$work/expected"
     check_text "the version" 0 "$work/expected" /dev/null "$program" version
+    check_text "the version by --version" 0 "$work/expected" /dev/null "$program" --version
     printf 'tsc: usage: tsc replay CONFIG or tsc serve CONFIG\n' > "$work/expected"
     check_text "help on something" 2 "$work/expected" /dev/null "$program" help serve
     check_text "the version of something" 2 "$work/expected" /dev/null "$program" version "$top/examples/errors.toml"
@@ -280,17 +294,17 @@ validated() {
 # A collector whose configuration is refused, and one whose address is none.
 refused_before_it_listens() {
     printf 'tsc: configuration refused: 7.1\n' > "$work/expected"
-    check "a refused configuration of a collector" 3 "$work/expected" /dev/null "$program" serve "$top/tests/rows/refused_no_policies/config.toml"
+    check_refusal "a refused configuration of a collector" 3 "$work/expected" /dev/null "$program" serve "$top/tests/rows/refused_no_policies/config.toml"
     printf 'tsc: cannot listen\n' > "$work/expected"
     printf '%s\n' 'listen = "x"' 'policies = [{ name = "all", type = "always_sample" }]' > "$work/config.toml"
-    check "an address that is none" 6 "$work/expected" /dev/null "$program" serve "$work/config.toml"
+    check_refusal "an address that is none" 6 "$work/expected" /dev/null "$program" serve "$work/config.toml"
 }
 
 # A configuration that can't be read, isn't UTF-8, or is a byte too long; and one of the greatest length.
 unreadable() {
     printf 'tsc: configuration refused: unreadable\n' > "$work/expected"
     check "no such configuration" 3 "$work/expected" /dev/null "$program" replay "$work/none.toml"
-    check "no such configuration of a collector" 3 "$work/expected" /dev/null "$program" serve "$work/none.toml"
+    check_refusal "no such configuration of a collector" 3 "$work/expected" /dev/null "$program" serve "$work/none.toml"
     check "a folder as configuration" 3 "$work/expected" /dev/null "$program" replay "$work"
     { cat "$top/examples/errors.toml" && printf '# \377\n'; } > "$work/config.toml"
     check "a configuration that isn't UTF-8" 3 "$work/expected" /dev/null "$program" replay "$work/config.toml"

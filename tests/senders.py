@@ -34,9 +34,9 @@ HEADS = [
     ("the type in other letters", {"Content-Type": "Application/JSON"}, 200, "{}"),  # RFC 9110, 8.3.1: case doesn't matter
     ("field names in small letters", {"Host": None, "Content-Type": None, "host": "collector", "content-type": "application/json"}, 200, "{}"),  # RFC 9110, 5.1
     ("no compression, named so", {"Content-Encoding": "identity"}, 200, "{}"),
-    ("gzip", {"Content-Encoding": "gzip"}, 415, '{"message":"unsupported media type"}'),
-    ("protobuf", {"Content-Type": "application/x-protobuf"}, 415, '{"message":"unsupported media type"}'),
-    ("no type", {"Content-Type": None}, 415, '{"message":"unsupported media type"}'),
+    ("gzip", {"Content-Encoding": "gzip"}, 415, '{"message":"unsupported content encoding: gzip is off (accept_gzip)"}'),
+    ("protobuf", {"Content-Type": "application/x-protobuf"}, 415, '{"message":"unsupported media type: application/json is wanted"}'),
+    ("no type", {"Content-Type": None}, 415, '{"message":"unsupported media type: application/json is wanted"}'),
     ("no host", {"Host": None}, 400, '{"message":"bad request"}'),  # RFC 9112, 3.2
 ]
 
@@ -87,8 +87,8 @@ PACKED = [
     ("zlib's own form", "gzip", zlib.compress(ONE), 400, '{"message":"not gzip"}'),
     ("gzip of a byte more than a body may have", "gzip", gzip.compress(b" " * 4194305), 413, '{"message":"body too large"}'),
     ("gzip of 20 MB", "gzip", gzip.compress(bytes(20_000_000)), 413, '{"message":"body too large"}'),
-    ("deflate", "deflate", zlib.compress(ONE), 415, '{"message":"unsupported media type"}'),
-    ("a list of codings", "gzip, gzip", gzip.compress(gzip.compress(ONE)), 415, '{"message":"unsupported media type"}'),
+    ("deflate", "deflate", zlib.compress(ONE), 415, '{"message":"unsupported content encoding: identity is wanted, or gzip with accept_gzip"}'),
+    ("a list of codings", "gzip, gzip", gzip.compress(gzip.compress(ONE)), 415, '{"message":"unsupported content encoding: identity is wanted, or gzip with accept_gzip"}'),
 ]
 
 

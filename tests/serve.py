@@ -20,6 +20,7 @@ import serve_faults
 import serve_limits
 import serve_many
 import serve_memory
+import serve_operated
 from collector import ALL, ERRORS, ERROR_LINE, ERROR_SPAN, Failure, body_of, post, run_checks, spans_of, want
 
 
@@ -139,7 +140,7 @@ def refusals(start):
         ("another path", post(body, "/v1/metrics"), 404, '{"message":"not found"}'),
         ("a query", post(body, "/v1/traces?x=1"), 404, '{"message":"not found"}'),
         ("another method", post(b"", method="GET"), 405, '{"message":"method not allowed"}'),
-        ("another type", post(body).replace(b"application/json", b"application/x-protobuf"), 415, '{"message":"unsupported media type"}'),
+        ("another type", post(body).replace(b"application/json", b"application/x-protobuf"), 415, '{"message":"unsupported media type: application/json is wanted"}'),
         ("a wrong shape", post(b"[]"), 400, '{"message":"wrong shape"}'),
     ]
     for name, request, status, text in rows:
@@ -301,7 +302,7 @@ def refused_address(start):
     with tempfile.TemporaryDirectory() as folder:
         config = os.path.join(folder, "config.toml")
         with open(config, "w", encoding="utf-8") as file:
-            file.write('listen = "x"\n' + ALL)
+            file.write('log = "off"\nlisten = "x"\n' + ALL)
         done = subprocess.run([start.program, "serve", config], stdin=subprocess.DEVNULL, capture_output=True, timeout=60, check=False)
         want("the end", (done.returncode, done.stdout, done.stderr), (6, b"tsc: cannot listen\n", b""))
 
@@ -339,7 +340,7 @@ def main():
     """Runs each check on each program."""
     checks = [one_error, serve_on_loopback, asks_behind_the_close, is_kept_while_it_runs, keep_alive, chunked, expect, refusals, broken_clients, many_clients]
     checks += [queues_of_four, closes_under_way, refused_address, reader_is_gone] + ([under_curl] if has_curl() else [])
-    own = [senders, serve_limits, serve_many, serve_faults, serve_admin, serve_config, serve_close, serve_memory, serve_export]
+    own = [senders, serve_limits, serve_many, serve_faults, serve_admin, serve_config, serve_close, serve_memory, serve_export, serve_operated]
     run_checks(sys.argv[1:], checks + [check for it in own for check in it.CHECKS])
 
 

@@ -98,6 +98,34 @@ def in_charge(start):
     want("the report", report, [2, 1, 1, 0, 0, 0, 0, 0, 0])
 
 
+def pages_of_other_sites(start):
+    """Pages of other sites don't close the collector, at neither address; the numbers are told by any name, and whoever is no page closes it."""
+    admin = free_port()
+    own, other = f"127.0.0.1:{admin}", "collector.example"
+    named = lambda request, host: request.replace(b"Host: collector", f"Host: {host}".encode())
+    close = lambda host, *fields: named(post(b"", "/close", fields=fields), host)
+    refused = [
+        (own, "Origin: http://evil.example", "Sec-Fetch-Site: cross-site"),
+        (own, "Origin: null"),
+        (own, f"Origin: https://{own}"),
+        (own, "Sec-Fetch-Site: same-site"),
+        (other, f"Origin: http://{other}", "Sec-Fetch-Site: same-origin"),
+        (other,),
+    ]
+    collector = start(f'admin = "{own}"\n' + ALL)
+    for host, *fields in refused:
+        want(f"a close {host} {fields}", asked(admin, close(host, *fields))[::2], (403, '{"message":"forbidden"}'))
+    want("the health by another name", asked(admin, named(get("/healthz"), other))[::2], (200, "ok\n"))
+    want("a page of its own", asked(admin, close(own, f"Origin: http://{own}", "Sec-Fetch-Site: same-origin"))[::2], (200, "{}"))
+    want("the report", collector.end()[1], [0] * 9)
+    collector = start(ALL)
+    for host, *fields in [(host.replace(own, f"127.0.0.1:{collector.port}"), *fields) for host, *fields in refused]:
+        want(f"a close at listen {host} {fields}", collector.ask(close(host, *fields))[::2], (403, '{"message":"forbidden"}'))
+    want("spans by another name", collector.ask(named(post(body_of([ERROR_SPAN])), other))[0], 200)
+    want("a close at listen", collector.ask(close("collector:4318"))[::2], (200, "{}"))
+    want("the report at listen", collector.end()[1], [1, 1, 0, 0, 0, 0, 0, 0, 0])
+
+
 def told_by_shards(start):
     """Each shard tells what waits in it; late spans and decisions are counted by what was decided."""
     admin = free_port()
@@ -375,7 +403,7 @@ def input_that_fails(start):
     with tempfile.TemporaryDirectory() as folder:
         config = os.path.join(folder, "config.toml")
         with open(config, "w", encoding="utf-8") as file:
-            file.write('listen = "127.0.0.1:0"\nclose_at_end_of_input = true\n' + ALL)
+            file.write('log = "off"\nlisten = "127.0.0.1:0"\nclose_at_end_of_input = true\n' + ALL)
         unreadable = os.open(folder, os.O_RDONLY)  # (a folder: each read of it fails)
         try:
             ran = subprocess.run([start.program, "serve", config], stdin=unreadable, capture_output=True, timeout=60, check=False)
@@ -387,6 +415,7 @@ def input_that_fails(start):
 CHECKS = [
     in_charge,
     in_charge_by_a_socket,
+    pages_of_other_sites,
     told_by_shards,
     odd_questions,
     answers_by_status,

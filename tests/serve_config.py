@@ -60,7 +60,8 @@ def settings_in_force(start):
         status, fields, text = asked(admin, get("/config"))
         want("the status", status, 200)
         addresses = {"listen": f"127.0.0.1:{collector.port}", "admin": f"127.0.0.1:{admin}"}
-        want("the settings", tomllib.loads(text), with_defaults(tomllib.loads(settings) | addresses))
+        log = {} if "log" in tomllib.loads(settings) else {"log": "off"}
+        want("the settings", tomllib.loads(text), with_defaults(tomllib.loads(settings) | addresses | log))
         want("its faults", validated(start.program, collector.folder.name, text), (0, b"ok\n", b""))
         again = free_port()
         lines = [(f'{key} = "{address}"\n', f'{key} = "127.0.0.1:{port}"\n') for (key, address), port in zip(addresses.items(), (None, again))]

@@ -63,7 +63,7 @@ def second_address(start):
         port, backend = taken.getsockname()[1], Backend()
         config = os.path.join(folder, "config.toml")
         with open(config, "w", encoding="utf-8") as file:
-            file.write(f'listen = "two.test:{port}"\n' + ALL + backend.settings().replace("127.0.0.1", "two.test"))
+            file.write(f'log = "off"\nlisten = "two.test:{port}"\n' + ALL + backend.settings().replace("127.0.0.1", "two.test"))
         surroundings = {**os.environ, "LD_PRELOAD": library_of("two_addresses", folder)}
         ran = subprocess.Popen([start.program, "serve", config], stdin=subprocess.DEVNULL, stdout=subprocess.PIPE, env=surroundings)
         try:

@@ -14,4 +14,4 @@ _tsc()
         esac
     fi
 }
-complete -F _tsc tsc
+complete -F _tsc tsc conchpewter

@@ -5,6 +5,7 @@ import http.client
 import http.server
 import json
 import os
+import re
 import subprocess
 import sys
 import threading
@@ -54,11 +55,12 @@ class Backend:
         self.server.server_close()
 
 
-def ten_thousand_between_two_pipelines(here):
-    """100 clients send to the Collector, its batch processor hands on to tsc, hand_on.sh gives the lines back to it, and its second batch processor
-    hands them to a backend: what comes there is what was sent."""
-    collector, backend = here.start(SETTINGS + GZIP), Backend()
+def core_by_the_recipe(here, collector, backend, is_split=True):
+    """The Collector by collector.yaml with other ports, and these; or with a batch processor of its defaults."""
     text = (RECIPES / "collector.yaml").read_text("utf-8")
+    if not is_split:
+        text = re.sub(r"(?m)^  batch:\n(?:    .*\n)+", "  batch:\n", text)
+        want("what is left of the sizes of a batch", "send_batch" in text, False)
     ports = {at: free_port() for at in (4317, 4318, 4338)} | {4328: collector.port, 14318: backend.port}
     for before, now in ports.items():
         want(f"the recipe has :{before}", f"127.0.0.1:{before}" in text, True)
@@ -66,7 +68,14 @@ def ten_thousand_between_two_pipelines(here):
     recipe = here.folder / "collector.yaml"
     # The core's own numbers would take port 8888.
     recipe.write_text(text.replace("service:\n", "service:\n  telemetry: { metrics: { level: none } }\n"), "utf-8")
-    core = Neighbour(here, [str(here.fetched / "collector" / "otelcore"), "--config", str(recipe)], ports[4318])
+    return Neighbour(here, [str(here.fetched / "collector" / "otelcore"), "--config", str(recipe)], ports[4318]), ports
+
+
+def ten_thousand_between_two_pipelines(here):
+    """100 clients send to the Collector, its batch processor hands on to tsc, hand_on.sh gives the lines back to it, and its second batch processor
+    hands them to a backend: what comes there is what was sent."""
+    collector, backend = here.start(SETTINGS + GZIP), Backend()
+    core, ports = core_by_the_recipe(here, collector, backend)
     tail = subprocess.Popen(["tail", "-n", "+1", "-F", collector.printed], stdout=subprocess.PIPE, stderr=subprocess.DEVNULL)
     hands_on = subprocess.Popen([str(RECIPES / "hand_on.sh"), f"http://127.0.0.1:{ports[4338]}/v1/traces"], stdin=tail.stdout)
     try:
@@ -77,6 +86,79 @@ def ten_thousand_between_two_pipelines(here):
             time.sleep(0.1)
         all_came_back(collector, sent)
         want("what came to the backend", ids_of(backend.spans()) == ids_of(sent), True)
+    finally:
+        tail.kill()
+        tail.wait()
+        tail.stdout.close()
+        hands_on.wait(30)
+        core.end()
+        backend.end()
+
+
+def large_batches_are_split(here):
+    """A request of 8,192 spans, as a default `batch` sends it, of more than 4 MiB, goes through the Collector by the recipe, and all come."""
+    collector, backend = here.start(SETTINGS + GZIP), Backend()
+    core, ports = core_by_the_recipe(here, collector, backend)
+    sent = [{**it, "attributes": [{"key": "text", "value": {"stringValue": "x" * 400}}]} for it in spans_for(0, 0, 8192)]
+    want("a body above 4 MiB", len(json.dumps(sent)) > 4194304, True)
+    want("the answer", post(http.client.HTTPConnection("127.0.0.1", ports[4318], timeout=60), sent), 200)
+    for _ in range(300):
+        with open(collector.printed, encoding="utf-8") as lines:
+            if sum(it.count('"spanId"') for it in lines) >= len(sent):
+                break
+        time.sleep(0.1)
+    core.end()
+    backend.end()
+    all_came_back(collector, sent)
+
+
+def default_batches_are_taken(here):
+    """The Collector's batch processor with its defaults sends 8,192 spans at once, of more than 4 MiB; with `max_request_mib = 20` all 24,576 come, once."""
+    collector, backend = here.start(SETTINGS + GZIP + "max_request_mib = 20\n"), Backend()
+    core, ports = core_by_the_recipe(here, collector, backend, is_split=False)
+    sent = [{**it, "attributes": [{"key": "text", "value": {"stringValue": "x" * 400}}]} for it in spans_for(0, 0, 24576)]
+    connection = http.client.HTTPConnection("127.0.0.1", ports[4318], timeout=60)
+    for first in range(0, len(sent), 512):
+        want("the answer", post(connection, sent[first : first + 512]), 200)
+    for _ in range(300):
+        with open(collector.printed, encoding="utf-8") as lines:
+            if sum(it.count('"spanId"') for it in lines) >= len(sent):
+                break
+        time.sleep(0.1)
+    core.end()
+    backend.end()
+    all_came_back(collector, sent)
+
+
+def the_three_steps(here):
+    """The README's steps beside a Collector: its configuration brought over by tsc-import, its batches handed on by the recipe, and the lines by hand_on.sh. Of
+    2,000 traces of two spans, each with a double, those with an error come to the backend, whole."""
+    (here.folder / "collector.yaml").write_text(
+        "processors: { tail_sampling: { decision_wait: 2s, policies: [{ name: errors, type: status_code, status_code: { status_codes: [ERROR] } }] } }\n", "utf-8"
+    )
+    words = [sys.executable, TOP / "packaging/import/tsc-import", "--beside", "--program", here.program, "collector.yaml"]
+    made = subprocess.run(words, cwd=here.folder, capture_output=True, text=True, check=True).stdout
+    want("the address", made.count('listen = "127.0.0.1:4328"\n'), 1)
+    collector, backend = here.start(made.replace('listen = "127.0.0.1:4328"\n', "")), Backend()
+    core, ports = core_by_the_recipe(here, collector, backend)
+    tail = subprocess.Popen(["tail", "-n", "+1", "-F", collector.printed], stdout=subprocess.PIPE, stderr=subprocess.DEVNULL)
+    hands_on = subprocess.Popen([str(RECIPES / "hand_on.sh"), f"http://127.0.0.1:{ports[4338]}/v1/traces"], stdin=tail.stdout)
+    try:
+        spans = [
+            {"traceId": f"{at:032x}", "spanId": f"{2 * at + it:016x}", "status": {"code": 2} if at % 5 == 0 and it else {}, "attributes": [{"key": "ratio", "value": {"doubleValue": at / 8}}]}
+            for at in range(1, 2001) for it in (0, 1)
+        ]
+        connection = http.client.HTTPConnection("127.0.0.1", ports[4318], timeout=30)
+        for first in range(0, len(spans), 500):
+            want("the answer", post(connection, spans[first : first + 500]), 200)
+        wanted = {it["spanId"]: it["attributes"] for it in spans if int(it["traceId"], 16) % 5 == 0}
+        for _ in range(300):
+            if len(backend.spans()) >= len(wanted):
+                break
+            time.sleep(0.1)
+        want("the report", collector.close()[1], [4000, 800, 0, 0, 0, 0, 3200, 0, 0])
+        came = backend.spans()
+        want("what came to the backend, once", (len(came), {it["spanId"]: it["attributes"] for it in came} == wanted), (800, True))
     finally:
         tail.kill()
         tail.wait()
@@ -247,7 +329,7 @@ def a_million_to_the_collector(here):
 
 
 CHECKS = [
-    ten_thousand_between_two_pipelines, a_million_to_the_collector, a_collector_that_is_away, the_second_tier, the_documented_example_is_read, ten_thousand_of_the_sdk,
+    ten_thousand_between_two_pipelines, large_batches_are_split, default_batches_are_taken, the_three_steps, a_million_to_the_collector, a_collector_that_is_away, the_second_tier, the_documented_example_is_read, ten_thousand_of_the_sdk,
     equal_by_the_codec,
     ten_thousand_by_the_codec,
 ]

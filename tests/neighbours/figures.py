@@ -117,4 +117,25 @@ def questions_by_jq(here):
     want("values", sorted(it.split() for it in values), [["3333", "/0"], ["3333", "/2"], ["3334", "/1"]])
 
 
-CHECKS = [alerts_are_sound, prometheus_and_the_dashboard, questions_by_jq]
+def another_configuration_over_kept_lines(here):
+    """Each command of docs/OPERATING.md that replays kept lines by another configuration keeps the traces with an error, of 2,000 that were kept."""
+    collector, failed = here.start(SETTINGS), 0
+    for first in range(0, 2000, 100):
+        spans = []
+        for at in range(first + 1, first + 101):
+            times = {"startTimeUnixNano": str(1764000000000000000 + at * 10**8), "endTimeUnixNano": str(1764000000000000000 + at * 10**8 + 1)}
+            spans += [{"traceId": f"{at:032x}", "spanId": f"{2 * at + it:016x}", **times, "status": {"code": 2 if at % 7 == 0 and it else 1}} for it in (0, 1)]
+            failed += 2 * (at % 7 == 0)
+        want("the answer", collector.ask(post(body_of(spans)))[0], 200)
+    collector.close()
+    page = (RECIPES.parent.parent / "docs" / "OPERATING.md").read_text("utf-8")
+    commands = re.findall(r"(?m)^    (awk .* \| tsc replay new\.toml) > would\.txt$", page)
+    want("commands", len(commands), 2)
+    (here.folder / "new.toml").write_text('policies = [{ name = "errors", type = "status_code", status_code = { status_codes = ["ERROR"] } }]\n', "utf-8")
+    for it in commands:
+        asked = it.replace("kept.jsonl", collector.printed).replace("tsc replay", f"{here.program} replay")
+        told = subprocess.run(["bash", "-c", asked], cwd=here.folder, capture_output=True, text=True, check=True).stdout.splitlines()
+        want("the report", told[-9:], ["received 4000", f"handed {failed}", *(f"dropped {reason} {4000 - failed if reason == 5 else 0}" for reason in range(1, 8))])
+
+
+CHECKS = [alerts_are_sound, prometheus_and_the_dashboard, questions_by_jq, another_configuration_over_kept_lines]

@@ -3,6 +3,7 @@
 import http.client
 import os
 import re
+import socket
 import ssl
 import subprocess
 import time
@@ -28,8 +29,13 @@ def haproxy(here, collector, certificate, recipe=RECIPES / "haproxy.cfg"):
 
 
 def nginx(here, collector, recipe):
-    port, folder = free_port(), here.folder / "nginx"
-    text = recipe.replace("127.0.0.1:4318", f"127.0.0.1:{collector.port}").replace("127.0.0.1:4317", f"127.0.0.1:{port}")
+    port = free_port()
+    return nginx_by(here, recipe.replace("127.0.0.1:4318", f"127.0.0.1:{collector.port}").replace("127.0.0.1:4317", f"127.0.0.1:{port}"), port)
+
+
+def nginx_by(here, text, port):
+    """nginx by a recipe whose ports are set."""
+    folder = here.folder / "nginx"
     text = re.sub(r"http \{", "http {\n  access_log off;\n" + "".join(
         f"  {it}_temp_path {folder}/{it};\n" for it in ("client_body", "proxy", "fastcgi", "uwsgi", "scgi")), text, count=1)
     (folder / "logs").mkdir(parents=True, exist_ok=True)
@@ -150,7 +156,63 @@ def http_2_through_haproxy(here):
     all_came_back(collector, sent)
 
 
+def asked(port, method, target):
+    """The status and the text of an answer to one request without a body."""
+    connection = http.client.HTTPConnection("127.0.0.1", port, timeout=10)
+    connection.request(method, target)
+    answer = connection.getresponse()
+    return answer.status, answer.read().decode()
+
+
+def numbers_alone(here, port, second, collector, refused):
+    """Of the second address just its numbers and its health are to be had through a proxy, also while others have connected to it and say nothing."""
+    silent = [socket.create_connection(("127.0.0.1", port), 10) for _ in range(20)]
+    began = time.monotonic()
+    want("the health", asked(port, "GET", "/healthz"), (200, "ok\n"))
+    status, text = asked(port, "GET", "/metrics")
+    want("the numbers", (status, re.findall(r"(?m)^tsc_spans_received_total (\d+)$", text)), (200, ["0"]))
+    want("that nobody holds them up", time.monotonic() - began < 4, True)
+    for method, target, status in (
+        ("POST", "/close", 404), ("GET", "/close", 404), ("GET", "/config", 404), ("GET", "/", 404), ("POST", "/metrics", refused), ("POST", "/metrics/../close", 404),
+        ("POST", "//close", 404),
+    ):
+        want(f"{method} {target}", asked(port, method, target)[0], status)
+    want("the configuration, beside the proxy", asked(second, "GET", "/config")[0], 200)
+    for it in silent:
+        it.close()
+    want("the close, beside the proxy", asked(second, "POST", "/close"), (200, "{}"))
+    want("the report", collector.end()[1], [0] * 9)
+
+
+def numbers_through_haproxy(here):
+    """By haproxy_numbers.cfg as it stands, for an address and for a socket's file."""
+    for number, (admin, server) in enumerate((("127.0.0.1:{port}", "127.0.0.1:{port}"), ("unix:{folder}/admin.sock", "unix@{folder}/admin.sock"))):
+        second, port = free_port(), free_port()
+        places = {"port": second, "folder": here.folder}
+        collector = here.start(f'admin = "{admin.format(**places)}"\n' + SETTINGS)
+        words = [f"{here.packages}/usr/sbin/haproxy", "-f", str(RECIPES / "haproxy_numbers.cfg")]
+        proxy = Neighbour(here, words, port, NUMBERS=f"127.0.0.1:{port}", ADMIN=server.format(**places))
+        if number == 0:
+            numbers_alone(here, port, second, collector, 405)
+        else:
+            want("the health through a socket's file", asked(port, "GET", "/healthz"), (200, "ok\n"))
+            want("the close through it", asked(port, "POST", "/close")[0], 404)
+        proxy.end()
+
+
+def numbers_through_nginx(here):
+    """By nginx_numbers.conf."""
+    second, port = free_port(), free_port()
+    collector = here.start(f'admin = "127.0.0.1:{second}"\n' + SETTINGS)
+    text = (RECIPES / "nginx_numbers.conf").read_text("utf-8")
+    for it in ("127.0.0.1:4319;", "listen 4320;"):
+        want(f"{it} in the recipe", text.count(it), 1)
+    proxy = nginx_by(here, text.replace("127.0.0.1:4319;", f"127.0.0.1:{second};").replace("listen 4320;", f"listen 127.0.0.1:{port};"), port)
+    numbers_alone(here, port, second, collector, 403)
+    proxy.end()
+
+
 CHECKS = [
     ten_thousand_through_haproxy, haproxy_turns_away, haproxy_limits_each_client, http_2_through_haproxy, two_hundred_of_wrk_through_haproxy,
-    ten_thousand_through_nginx, two_hundred_of_wrk_through_nginx,
+    ten_thousand_through_nginx, two_hundred_of_wrk_through_nginx, numbers_through_haproxy, numbers_through_nginx,
 ]

@@ -1,11 +1,13 @@
 -- What was read asks for one thing, which more bytes don't change.
 -- They are the clauses of `heard_in_any_pieces`.
 use Rattle.std.proofs.Common.{◌≡◌, ◌≤◌, ◌++◌, ℕ, Bool, true, false, List, [], Option, Some, None, ap, sym, ◌∙◌, inl, inr, refl, subst, take}
-use Rattle.std.specs.Prelude.{nat_le, length}
+use Rattle.std.specs.Prelude.{nat_le, length, map}
 use Rattle.std.proofs.lemmas.List.{take-append-le}
 use borrow.Author.Tests.{leb-true, leb-false}
 use Rattle.httparse.proofs.GrammarLemmas.{request_unique}
 use Rattle.http_text.specs.Lines.{Cut, Whole, Waits, TooLong, cut, head_len}
+use Rattle.httparse.specs.Spans.{name_and_value}
+use Rattle.http_text.specs.Fields.{is_foreign}
 use Rattle.http_text.specs.Head.{IsVerdict, Judges, field_lines, verdict}
 use Rattle.http_text.specs.declared.request.TheConstants.{FIELD_LIMIT}
 use Rattle.http_text.specs.declared.request.HeadVerdict.{HeadVerdict}
@@ -27,7 +29,7 @@ one_verdict text v w a b = by_lines (nat_le (field_lines text) FIELD_LIMIT) refl
 
 asked_once : (text : List ℕ) (refused : Option AdminRequest) (a b : AdminRequest) → AskedAs text refused a → AskedAs text refused b → a ≡ b
 asked_once text (Some refused) a b x y = x ∙ sym y
-asked_once text None a b x y = x.2 ∙ ap (λ h. asked_by h.method h.target) (request_unique text x.0 y.0 [] [] x.1.0 y.1.0).0 ∙ sym y.2
+asked_once text None a b x y = x.2 ∙ ap (λ h. asked_by h.method h.target (is_foreign (map name_and_value h.fields))) (request_unique text x.0 y.0 [] [] x.1.0 y.1.0).0 ∙ sym y.2
 
 text_asks_once : (text : List ℕ) (a b : AdminRequest) → IsAsked text a → IsAsked text b → a ≡ b
 text_asks_once text a b x y =

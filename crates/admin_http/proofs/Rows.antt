@@ -7,12 +7,13 @@ use Rattle.http_text.specs.Lines.{Whole, Waits, cut, head_len}
 use Rattle.http_text.specs.declared.request.RequestRefusal.TheVariants.{BadRequest, HeadTooLarge, MethodNotAllowed, NotFound as NotFoundThere}
 use Rattle.http_text.specs.declared.request.HeadVerdict.{HeadVerdict}
 use Rattle.http_text.specs.declared.request.HeadVerdict.TheVariants.{Refused, Close as CloseThere}
-use Rattle.http_text.specs.Fields.{Header}
+use Rattle.http_text.specs.Fields.{Header, is_foreign}
 use Rattle.http_text.specs.Head.{verdict_by}
 use Rattle.admin_http.specs.declared.asked.Method.TheVariants.{Get, Post}
 use Rattle.admin_http.specs.declared.asked.Route.{Route}
-use Rattle.admin_http.specs.declared.asked.Route.TheVariants.{Close, Metrics, Health, Config, NotFound, WrongMethod, Bad, TooLarge}
+use Rattle.admin_http.specs.declared.asked.Route.TheVariants.{Close, Metrics, Health, Config, Forbidden, NotFound, WrongMethod, Bad, TooLarge}
 use Rattle.admin_http.specs.declared.ends.TheConstants.{PIECE_LIMIT, QUIET_LIMIT, READ_LIMIT}
+use Rattle.admin_http.specs.declared.asked.AdminRequest.{AdminRequest}
 use Rattle.admin_http.specs.Asked.{asked, asked_by, refused_as, routed, nothing}
 use Rattle.admin_http.specs.Texts.{AdminState, answer_of, state}
 
@@ -42,9 +43,34 @@ traces_there : routed (codes "POST") (codes "/v1/traces") ∷ routed (codes "POS
 traces_there = refl
 
 -- the answer to `HEAD` has no body, whatever it asks for
-heads : asked_by (codes "HEAD") (codes "/metrics") ∷ asked_by (codes "HEAD") (codes "/other") ∷ asked_by (codes "GET") (codes "/other") ∷ []
+heads : asked_by (codes "HEAD") (codes "/metrics") false ∷ asked_by (codes "HEAD") (codes "/other") true ∷ asked_by (codes "GET") (codes "/other") false ∷ []
     ≡ asked (WrongMethod Get) true ∷ asked NotFound true ∷ asked NotFound false ∷ []
 heads = refl
+
+-- what a page of another site may have sent: a `POST` is refused, whatever it asks for; what only tells is answered
+of_another_site : asked_by (codes "POST") (codes "/close") true ∷ asked_by (codes "POST") (codes "/metrics") true ∷ asked_by (codes "POST") (codes "/other") true
+    ∷ asked_by (codes "GET") (codes "/metrics") true ∷ asked_by (codes "GET") (codes "/healthz") true ∷ asked_by (codes "GET") (codes "/close") true
+    ∷ asked_by (codes "POST") (codes "/close") false ∷ []
+    ≡ asked Forbidden false ∷ asked Forbidden false ∷ asked Forbidden false
+    ∷ asked Metrics false ∷ asked Health false ∷ asked (WrongMethod Post) false
+    ∷ asked Close false ∷ []
+of_another_site = refl
+
+-- by its fields
+close_of : Header → List Header → AdminRequest
+close_of named fields = asked_by (codes "POST") (codes "/close") (is_foreign (named ∷ fields))
+
+own_address : Header
+own_address = (codes "Host", codes "127.0.0.1:4319")
+
+by_fields : close_of own_address [] ∷ close_of (codes "Host", codes "collector:4319") []
+    ∷ close_of own_address ((codes "Origin", codes "http://127.0.0.1:4319") ∷ []) ∷ close_of own_address ((codes "Origin", codes "http://127.0.0.1:4318") ∷ [])
+    ∷ close_of own_address ((codes "Origin", codes "null") ∷ []) ∷ close_of own_address ((codes "Sec-Fetch-Site", codes "cross-site") ∷ [])
+    ∷ close_of (codes "Host", codes "evil.example:4319") ((codes "Origin", codes "http://evil.example:4319") ∷ []) ∷ []
+    ≡ asked Close false ∷ asked Close false ∷ asked Close false ∷ asked Forbidden false
+    ∷ asked Forbidden false ∷ asked Forbidden false ∷ asked Forbidden false ∷ []
+unfolding close_of own_address
+by_fields = refl
 
 -- what is refused at the address of the traces: only a bad head, and one that is too large, is so here
 refusals : refused_as (Refused BadRequest true) ∷ refused_as (Refused HeadTooLarge false) ∷ refused_as (Refused NotFoundThere false) ∷ refused_as (Refused MethodNotAllowed false) ∷ refused_as CloseThere ∷ []
@@ -95,6 +121,11 @@ of_the_collector : answered Metrics open_state ∷ answered Health open_state �
     ++ codes "Connection: close\r\n\r\nclosing\n") ∷ []
 unfolding answered digits open_state closing_state
 of_the_collector = refl
+
+forbidden : answered Forbidden open_state
+    ≡ codes "HTTP/1.1 403 Forbidden\r\nContent-Type: application/json\r\nContent-Length: 23\r\nConnection: close\r\n\r\n{\"message\":\"forbidden\"}"
+unfolding answered digits
+forbidden = refl
 
 not_answered : answered NotFound open_state ∷ answered (WrongMethod Get) open_state
     ∷ answered Bad open_state ∷ answered TooLarge open_state ∷ []

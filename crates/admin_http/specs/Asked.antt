@@ -1,7 +1,9 @@
 -- What the head at the front of a stream asks for (RFC 9112, sections 2 to 3), by what `http_text` says of heads.
-use Rattle.std.specs.Prelude.{◌≡◌, ℕ, Bool, false, List, ◌++◌, Option, Some, None, take, codes, bytes_eq, if◌then◌else◌}
+use Rattle.std.specs.Prelude.{◌≡◌, ◌&&◌, ℕ, Bool, false, List, map, ◌++◌, Option, Some, None, take, codes, bytes_eq, if◌then◌else◌}
 use Rattle.httparse.specs.Grammar.{RequestHead}
 use Rattle.http_text.specs.Lines.{Cut, Whole, Waits, TooLong, cut, head_len}
+use Rattle.httparse.specs.Spans.{name_and_value}
+use Rattle.http_text.specs.Fields.{is_foreign}
 use Rattle.http_text.specs.Head.{IsHead, IsVerdict}
 use Rattle.http_text.specs.declared.allowed.Allowed.{Allowed}
 use Rattle.http_text.specs.declared.request.HeadVerdict.{HeadVerdict}
@@ -10,7 +12,7 @@ use Rattle.http_text.specs.declared.request.RequestRefusal.TheVariants.{BadReque
 use Rattle.admin_http.specs.declared.asked.Method.{Method}
 use Rattle.admin_http.specs.declared.asked.Method.TheVariants.{Get, Post}
 use Rattle.admin_http.specs.declared.asked.Route.{Route}
-use Rattle.admin_http.specs.declared.asked.Route.TheVariants.{Close, Metrics, Health, Config, NotFound, WrongMethod, Bad, TooLarge}
+use Rattle.admin_http.specs.declared.asked.Route.TheVariants.{Close, Metrics, Health, Config, Forbidden, NotFound, WrongMethod, Bad, TooLarge}
 use Rattle.admin_http.specs.declared.asked.AdminRequest.{AdminRequest}
 
 -- the word of a method
@@ -35,8 +37,12 @@ routed method target =
 abbrev pub asked : Route → (is_head : Bool) → AdminRequest
 asked route is_head = record { route = route; is_head = is_head }
 
-abbrev pub asked_by : (method target : List ℕ) → AdminRequest
-asked_by method target = asked (routed method target) (bytes_eq method (codes "HEAD"))
+-- what has power is asked by `POST`, and refused where a page of another site may have sent the request
+abbrev pub route_by : (method target : List ℕ) → (foreign : Bool) → Route
+route_by method target foreign = if foreign && bytes_eq method (codes "POST") then Forbidden else routed method target
+
+abbrev pub asked_by : (method target : List ℕ) → (foreign : Bool) → AdminRequest
+asked_by method target foreign = asked (route_by method target foreign) (bytes_eq method (codes "HEAD"))
 
 -- a text that is refused as no head, or as too large a one, at the address of the traces is so here
 abbrev pub refused_as : HeadVerdict → Option AdminRequest
@@ -44,14 +50,14 @@ refused_as (Refused HeadTooLarge is_head) = Some (asked TooLarge is_head)
 refused_as (Refused BadRequest is_head) = Some (asked Bad is_head)
 refused_as _ = None
 
--- any other text is a head, which asks by its method and its target
+-- any other text is a head, which asks by its method, its target and where it comes from
 abbrev pub AskedAs : (text : List ℕ) → Option AdminRequest → AdminRequest → Type 0
 AskedAs text (Some refused) a = a ≡ refused
-AskedAs text None a = (h : RequestHead) × IsHead text h × (a ≡ asked_by h.method h.target)
+AskedAs text None a = (h : RequestHead) × IsHead text h × (a ≡ asked_by h.method h.target (is_foreign (map name_and_value h.fields)))
 
 -- what is allowed at the address of the traces makes no difference here
 abbrev pub nothing : Allowed
-nothing = record { gzip = false; close = false }
+nothing = record { gzip = false; close = false; body_limit = 0 }
 
 -- what the text of a head asks for
 abbrev pub IsAsked : (text : List ℕ) → AdminRequest → Type 0

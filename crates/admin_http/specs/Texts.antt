@@ -2,7 +2,7 @@
 use Rattle.std.specs.Prelude.{ℕ, Bool, List, [], ◌++◌, length, if◌then◌else◌, codes, decimal}
 use Rattle.admin_http.specs.declared.asked.Method.TheVariants.{Get, Post}
 use Rattle.admin_http.specs.declared.asked.Route.{Route}
-use Rattle.admin_http.specs.declared.asked.Route.TheVariants.{Close, Metrics, Health, Config, NotFound, WrongMethod, Bad, TooLarge}
+use Rattle.admin_http.specs.declared.asked.Route.TheVariants.{Close, Metrics, Health, Config, Forbidden, NotFound, WrongMethod, Bad, TooLarge}
 use Rattle.admin_http.specs.declared.asked.AdminRequest.{AdminRequest}
 
 -- what an answer tells of: whether the collector is closing, the text of its numbers, and that of its configuration
@@ -39,6 +39,7 @@ page_of Close s = json 200 (codes "OK") (codes "{}")
 page_of Metrics s = page 200 (codes "OK") (codes "text/plain; version=0.0.4; charset=utf-8") s.metrics
 page_of Health s = health_page s.is_stopping
 page_of Config s = page 200 (codes "OK") (codes "application/toml") s.config
+page_of Forbidden s = json 403 (codes "Forbidden") (codes "{\"message\":\"forbidden\"}")
 page_of NotFound s = json 404 (codes "Not Found") (codes "{\"message\":\"not found\"}")
 page_of (WrongMethod allowed) s = json 405 (codes "Method Not Allowed") (codes "{\"message\":\"method not allowed\"}")
 page_of Bad s = json 400 (codes "Bad Request") (codes "{\"message\":\"bad request\"}")

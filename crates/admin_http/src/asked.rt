@@ -20,6 +20,8 @@ pub enum Route {
     Health,
     /// `GET /config`: its configuration, as it stands.
     Config,
+    /// 403: a `POST` that a page of another site may have sent.
+    Forbidden,
     /// 404: another target.
     NotFound,
     /// 405: one of these targets, which has only this method.

@@ -1,15 +1,17 @@
 //! What the head at the front of a stream asks for. A body behind it is not read.
-ghost use Rattle.std.specs.Prelude.{◌≡◌, ◌<◌, ◌≤◌, ℕ, List, length, IfSome, IfNone, true, false};
+ghost use Rattle.std.specs.Prelude.{map, ◌≡◌, ◌<◌, ◌≤◌, ℕ, List, length, IfSome, IfNone, true, false};
 ghost use Rattle.httparse.specs.Grammar.{RequestHead};
 ghost use Rattle.httparse.specs.Spans.{IsRequestWithin};
 ghost use Rattle.http_text.specs.Head.{IsHead};
 ghost use Rattle.http_text.specs.Spans.{IsHeadAt};
 ghost use Rattle.admin_http.specs.Asked.{IsAsked, IsHeard, asked_by, only_by, refused_as, routed};
+ghost use Rattle.http_text.specs.Fields.{is_foreign};
+ghost use Rattle.httparse.specs.Spans.{name_and_value};
 
 use crate::asked::{AdminRequest, Method, Route};
 use http_text::{
     Allowed, Cutting, FIELD_LIMIT, HeadVerdict, PartSearch, RequestRefusal, SearchPlace, cut_on,
-    judge, read_head,
+    is_foreign, judge, read_head,
 };
 use httparse::spans::EMPTY_HEADER_SPAN;
 
@@ -17,6 +19,7 @@ use httparse::spans::EMPTY_HEADER_SPAN;
 const NOTHING: Allowed = Allowed {
     gzip: false,
     close: false,
+    body_limit: 0,
 };
 
 /// A target that has one method.
@@ -56,21 +59,30 @@ fn routed(method: &[u8], target: &[u8]) -> Route
 /// What is asked for by a text that is a head.
 fn asked_by_head(text: &[u8]) -> AdminRequest
     requires { (h : RequestHead) × IsHead text.now h }
-    ensures { (h : RequestHead) × IsHead text.now h × (result ≡ asked_by h.method h.target) }
+    ensures { (h : RequestHead) × IsHead text.now h × (result ≡ asked_by h.method h.target (is_foreign (map name_and_value h.fields))) }
 {
     let mut headers = [EMPTY_HEADER_SPAN; FIELD_LIMIT];
     match read_head(text, &mut headers) {
-        Some(head) => asked_by(head.method.of(text), head.path.of(text)),
+        Some(head) => {
+            let foreign = is_foreign(text, &headers[..head.headers]);
+            asked_by(head.method.of(text), head.path.of(text), foreign)
+        }
         None => unreachable!(),
     }
 }
 
-/// What is asked for by a method and a target.
-fn asked_by(method: &[u8], target: &[u8]) -> AdminRequest
-    ensures { result ≡ asked_by method.now target.now }
+/// What is asked for by a method and a target; `foreign`: a page of another site may have sent the request. What has power
+/// is asked by `POST`.
+fn asked_by(method: &[u8], target: &[u8], foreign: bool) -> AdminRequest
+    ensures { result ≡ asked_by method.now target.now foreign }
 {
+    let route = if foreign && method == b"POST".as_slice() {
+        Route::Forbidden
+    } else {
+        routed(method, target)
+    };
     AdminRequest {
-        route: routed(method, target),
+        route,
         is_head: method == b"HEAD".as_slice(),
     }
 }

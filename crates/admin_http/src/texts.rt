@@ -48,6 +48,7 @@ fn page_of<'a>(route: Route, is_stopping: bool, metrics: &'a str, config: &'a st
             media: "application/toml",
             body: config,
         },
+        Route::Forbidden => json(403, "Forbidden", "{\"message\":\"forbidden\"}"),
         Route::NotFound => json(404, "Not Found", "{\"message\":\"not found\"}"),
         Route::WrongMethod(_) => json(
             405,

@@ -1,5 +1,5 @@
 -- The last text and the exit status, and how each outcome arises.
-use Rattle.std.specs.Prelude.{◌≡◌, ◌⊎◌, ◌++◌, ◌<◌, ◌^◌, ℕ, Bool, true, false, not, ◌==◌, List, [], ◌∷◌, map, length, slice_index, Option, Some, None, Result, Ok, Err, codes, decimal, string_bytes, if◌then◌else◌}
+use Rattle.std.specs.Prelude.{◌≡◌, ◌⊎◌, ◌++◌, ◌<◌, ◌^◌, ℕ, Bool, true, false, not, ◌==◌, ◌||◌, List, [], ◌∷◌, map, length, slice_index, Option, Some, None, Result, Ok, Err, codes, decimal, string_bytes, if◌then◌else◌}
 use Rattle.std.specs.List.{concat}
 use Rattle.std.specs.Io.KnownBytes.{Appends}
 use Rattle.std.specs.Str.{bytes_eq}
@@ -117,7 +117,10 @@ pub record Course : Type 0 where
 
 -- what a word asks for that stands alone
 unfoldable pub asked_alone : (word : List ℕ) → Option Command
-asked_alone word = if bytes_eq word (codes "help") then Some Help else if bytes_eq word (codes "version") then Some Version else None
+asked_alone word =
+    if bytes_eq word (codes "help") || (bytes_eq word (codes "-h") || bytes_eq word (codes "--help")) then Some Help
+    else if bytes_eq word (codes "version") || bytes_eq word (codes "--version") then Some Version
+    else None
 
 -- what a word asks for that stands before the path of a configuration
 unfoldable pub asked_by : (word : List ℕ) → Option Command

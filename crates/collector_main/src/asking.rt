@@ -43,8 +43,8 @@ fn asked_alone(word: &str) -> Option<Command>
     ensures { result ≡ asked_alone word.now }
 {
     match word {
-        "help" => Some(Command::Help),
-        "version" => Some(Command::Version),
+        "help" | "-h" | "--help" => Some(Command::Help),
+        "version" | "--version" => Some(Command::Version),
         _ => None,
     }
 }

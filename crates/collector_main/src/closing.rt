@@ -4,7 +4,7 @@ ghost use Rattle.collector_main.specs.Configuration.{file_of};
 
 use crate::configuration::{FileFault, config_of};
 use crate::program::Outcome;
-use collector_serve::socket_path;
+use collector_serve::{port_alone, socket_path};
 use std::alloc::Global;
 use std::io;
 use std::io::{Read, Write};
@@ -32,7 +32,7 @@ pub fn close_by<T: Net<Listener = TcpListener, Stream = TcpStream>>(
     ensures { FileCloses (file_of (λ v. v.items) file) result }
 {
     match config_of(alloc, file) {
-        Ok(config) => match is_closing(rt, &config) {
+        Ok(config) => match is_closing(rt, alloc, &config) {
             Ok(true) => Outcome::Closed,
             _ => Outcome::CannotClose,
         },
@@ -44,6 +44,7 @@ pub fn close_by<T: Net<Listener = TcpListener, Stream = TcpStream>>(
 /// that the collector closes. An `Err`: there is nobody, or no answer within a minute.
 fn is_closing<T: Net<Listener = TcpListener, Stream = TcpStream>>(
     rt: &T,
+    alloc: Global,
     config: &Config,
 ) -> io::Result<bool> {
     let mut address = config.admin.as_str();
@@ -51,6 +52,10 @@ fn is_closing<T: Net<Listener = TcpListener, Stream = TcpStream>>(
         address = config.listen.as_str();
     }
     let patience = Some(Duration::from_secs(PATIENCE));
+    let own = match port_alone(address) {
+        Some(port) => format!(in alloc; "127.0.0.1:{port}")?,
+        None => String::from_str(alloc, address)?,
+    };
     match socket_path(address) {
         Some(path) => {
             let stream = UnixStream::connect(rt, path)?;
@@ -58,7 +63,7 @@ fn is_closing<T: Net<Listener = TcpListener, Stream = TcpStream>>(
             answers_close(stream)
         }
         None => {
-            let stream = TcpStream::connect(rt, address)?;
+            let stream = TcpStream::connect(rt, own.as_str())?;
             stream.set_read_timeout(patience)?;
             answers_close(stream)
         }

@@ -8,15 +8,16 @@
 mod asking;
 mod closing;
 mod configuration;
+mod logging;
 mod opening;
 mod program;
 mod running;
 mod sending;
 mod validating;
 
-use crate::program::{program, without_memory};
+use crate::program::{Surroundings, program, without_memory};
 use std::alloc::{Alloc, Global};
-use std::io::ErrorKind;
+use std::io::{ErrorKind, Stderr, Stdin};
 use std::process::ExitCode;
 use std::rt::Env;
 use std::{env, io};
@@ -30,14 +31,30 @@ fn main(rt: HostRuntime) -> ExitCode {
             rt.alloc(),
             &arguments,
             &mut input,
-            rt.stdin(),
+            surroundings(&rt),
             rt.stdout(),
         ),
         Err(error) if error.kind() == ErrorKind::OutOfMemory => (without_memory(rt.stdout()), 5),
         // One isn't UTF-8.
-        Err(_) => program(&rt, rt.alloc(), &[], &mut input, rt.stdin(), rt.stdout()),
+        Err(_) => program(
+            &rt,
+            rt.alloc(),
+            &[],
+            &mut input,
+            surroundings(&rt),
+            rt.stdout(),
+        ),
     };
     ExitCode::from(status)
+}
+
+/// What a collector is given beside its script and its output.
+fn surroundings(rt: &HostRuntime) -> Surroundings<Stdin, Stderr> {
+    Surroundings {
+        input: rt.stdin(),
+        errors: rt.stderr(),
+        watch_errors: rt.stderr(),
+    }
 }
 
 /// The arguments behind the program's own name.

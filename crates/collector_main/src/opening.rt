@@ -5,8 +5,10 @@ ghost use Rattle.tsc_config.specs.Reading.{reading};
 ghost use Rattle.collector_main.specs.Configuration.{file_of};
 
 use crate::configuration::FileFault;
+use crate::logging::{say_fault, say_listening};
 use collector_serve::{
-    Board, Charge, MEMORY_ACCOUNT, StopMark, close_at_end, listen, start_admin, start_memory_watch,
+    Board, Charge, EventWriter, MEMORY_ACCOUNT, StopMark, close_at_end, listen, start_admin,
+    start_log_watch, start_memory_watch,
 };
 use config_text::settings_in_force;
 use lane_driver::Loads;
@@ -14,12 +16,12 @@ use otlp_types::TryClone;
 use pipeline::Machine;
 use std::alloc::{AllocError, Global};
 use std::fs::File;
-use std::io::Read;
+use std::io::{Read, Write};
 use std::net::{Net, TcpListener, TcpStream};
 use std::rt::Files;
 use std::sync::{Arc, Wait};
 use std::{fs, io};
-use tsc_config::Config;
+use tsc_config::{Config, LogForm};
 
 /// A copy of what was read of the configuration's file, for those in charge, and nothing where it wasn't read.
 pub fn copy_of(alloc: Global, file: &Result<Vec<u8>, FileFault>) -> Result<String, AllocError>
@@ -55,9 +57,45 @@ pub fn charge_of(
     Ok(Arc::new(alloc, charge)?)
 }
 
+/// Looks at a run: at what memory the process takes, where the configuration limits that or there are those in charge,
+/// and at what is to be said of the run, where something is.
+pub fn watches<
+    T: Files<File = File>
+        + Net<Listener = TcpListener, Stream = TcpStream>
+        + Machine
+        + Copy
+        + Send
+        + 'static,
+    E: Write + Send + Drop + 'static,
+>(
+    rt: &T,
+    alloc: Global,
+    config: &Config,
+    charge: &Arc<Charge, Global>,
+    errors: E,
+    events: &mut EventWriter<E>,
+) -> io::Result<()> {
+    if let Err(error) = watches_memory(rt, config, charge) {
+        say_fault(
+            rt,
+            alloc,
+            events,
+            "cannot_watch_memory",
+            MEMORY_ACCOUNT,
+            error,
+        );
+        return Err(error);
+    }
+    if config.log != LogForm::Off {
+        let watched = EventWriter::new(errors, config.log);
+        start_log_watch(rt, alloc, watched, Arc::try_clone(charge)?)?;
+    }
+    Ok(())
+}
+
 /// Looks at what memory the process takes, for those in charge, and refuses requests while it is more than the
 /// configuration says.
-pub fn watches_memory<
+fn watches_memory<
     T: Files<File = File>
         + Net<Listener = TcpListener, Stream = TcpStream>
         + Machine
@@ -87,20 +125,33 @@ pub fn opened<
         + Send
         + 'static,
     I: Read + Send + Drop + 'static,
+    E: Write + Drop,
 >(
     rt: &T,
     alloc: Global,
     config: &Config,
     charge: &Arc<Charge, Global>,
     input: I,
+    events: &mut EventWriter<E>,
 ) -> io::Result<TcpListener> {
-    let listener = listen(rt, config.listen.as_str())?;
+    let address = config.listen.as_str();
+    let listener = match listen(rt, alloc, address) {
+        Ok(listener) => listener,
+        Err(error) => {
+            say_fault(rt, alloc, events, "cannot_listen", address, error);
+            return Err(error);
+        }
+    };
     let admin = config.admin.as_str();
     if !admin.is_empty() {
-        start_admin(rt, alloc, admin, Arc::try_clone(charge)?)?;
+        if let Err(error) = start_admin(rt, alloc, admin, Arc::try_clone(charge)?) {
+            say_fault(rt, alloc, events, "cannot_listen", admin, error);
+            return Err(error);
+        }
     }
     if config.close_at_end_of_input {
         close_at_end(rt, input, Arc::try_clone(charge)?)?;
     }
+    say_listening(rt, alloc, events, address);
     Ok(listener)
 }

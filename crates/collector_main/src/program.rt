@@ -10,10 +10,11 @@ ghost use Rattle.collector_main.specs.declared.program.Outcome.TheVariants.{NoMe
 use crate::asking::{HELP, VERSION, asked};
 use crate::closing::close_by;
 use crate::configuration::{FileFault, config_of, read_file};
-use crate::opening::{charge_of, copy_of, opened, watches_memory};
+use crate::logging::{say_end, say_no_memory, say_refused, say_start};
+use crate::opening::{charge_of, copy_of, opened, watches};
 use crate::running::serve_with;
 use crate::validating::told_of;
-use collector_serve::end_admin;
+use collector_serve::{EventWriter, end_admin};
 use config_faults::ConfigFault;
 use drop_ledger::{Count, Report};
 use itoa::Buffer;
@@ -85,8 +86,19 @@ pub enum Outcome {
     Version,
 }
 
-/// Runs the program with the arguments behind its own name. `reader` gives a script; `input` is the same standard
-/// input, for a collector that is closed at its end. It gives the writer back beside the exit status.
+/// What a collector is given beside its script and its output.
+#[derive(Drop)]
+pub struct Surroundings<Input: Drop, Errors: Drop> {
+    /// The standard input, whose end may close the collector.
+    pub input: Input,
+    /// Where the program says what becomes of a run.
+    pub errors: Errors,
+    /// The same, for the thread that looks at the run.
+    pub watch_errors: Errors,
+}
+
+/// Runs the program with the arguments behind its own name. `reader` gives a script. It gives the writer back beside
+/// the exit status.
 pub fn program<
     Runtime: Files<File = File>
         + Net<Listener = TcpListener, Stream = TcpStream>
@@ -96,13 +108,14 @@ pub fn program<
         + 'static,
     Script: Source,
     Input: Read + Send + Drop + 'static,
+    Errors: Write + Send + Drop + 'static,
     Writer: Write + Drop,
 >(
     rt: &Runtime,
     alloc: Global,
     arguments: &[String],
     reader: &mut Script,
-    input: Input,
+    around: Surroundings<Input, Errors>,
     writer: Writer,
 ) -> (Writer, u8)
     ensures { Ends (map string_bytes arguments.now) (Script.given reader.old) (Script.given reader.new) (Writer.contents writer) (Writer.contents result.0) result.1 }
@@ -110,7 +123,7 @@ pub fn program<
     let Ok(mut text) = Vec::with_capacity(alloc, TEXT_ROOM) else {
         return (without_memory(writer), 5);
     };
-    let (writer, outcome) = run(rt, alloc, arguments, reader, input, writer);
+    let (writer, outcome) = run(rt, alloc, arguments, reader, around, writer);
     finish(writer, &mut text, outcome)
 }
 
@@ -174,13 +187,14 @@ fn run<
         + 'static,
     Script: Source,
     Input: Read + Send + Drop + 'static,
+    Errors: Write + Send + Drop + 'static,
     Writer: Write + Drop,
 >(
     rt: &Runtime,
     alloc: Global,
     arguments: &[String],
     reader: &mut Script,
-    input: Input,
+    around: Surroundings<Input, Errors>,
     writer: Writer,
 ) -> (Writer, Outcome)
     ensures { (file : Result (List ℕ) FileFault) × CameTo (record {
@@ -197,7 +211,7 @@ fn run<
     };
     match command {
         Command::Replay => replay_by(alloc, read_file(rt, alloc, path), reader, writer),
-        Command::Serve => serve_by(rt, alloc, read_file(rt, alloc, path), input, writer),
+        Command::Serve => serve_by(rt, alloc, path, read_file(rt, alloc, path), around, writer),
         Command::Validate => (writer, told_of(alloc, read_file(rt, alloc, path))),
         Command::Close => (writer, close_by(rt, alloc, read_file(rt, alloc, path))),
         Command::Help => (writer, Outcome::Help),
@@ -229,8 +243,7 @@ fn replay_by<R: Source, W: Write>(
     (sink.end(), outcome_of(answer))
 }
 
-/// Takes requests on a listener by the configuration in what was read of its file. The end of `input` closes the
-/// collector, where the configuration says so.
+/// Takes requests on a listener by the configuration in what was read of its file, which has this path.
 fn serve_by<
     T: Files<File = File>
         + Net<Listener = TcpListener, Stream = TcpStream>
@@ -239,8 +252,16 @@ fn serve_by<
         + Send
         + 'static,
     I: Read + Send + Drop + 'static,
+    E: Write + Send + Drop + 'static,
     W: Write + Drop,
->(rt: &T, alloc: Global, file: Result<Vec<u8>, FileFault>, input: I, writer: W) -> (W, Outcome)
+>(
+    rt: &T,
+    alloc: Global,
+    path: &str,
+    file: Result<Vec<u8>, FileFault>,
+    around: Surroundings<I, E>,
+    writer: W,
+) -> (W, Outcome)
     ensures { (arguments : List (List ℕ)) → (unread : KnownReader) → Serves (record {
       arguments = arguments;
       file = file_of (λ v. v.items) file;
@@ -253,19 +274,35 @@ fn serve_by<
     let copy = copy_of(alloc, &file);
     let config = match config_of(alloc, file) {
         Ok(config) => config,
-        Err(outcome) => return (writer, outcome),
+        Err(outcome) => {
+            say_refused(rt, alloc, around.errors, path, &outcome);
+            return (writer, outcome);
+        }
     };
+    let mut events = EventWriter::new(around.errors, config.log);
+    say_start(rt, alloc, &mut events, path, &config);
     let Ok(charge) = charge_of(alloc, copy, &config) else {
+        say_no_memory(rt, alloc, &mut events);
         return (writer, Outcome::NoMemory);
     };
-    if watches_memory(rt, &config, &charge).is_err() {
+    if watches(
+        rt,
+        alloc,
+        &config,
+        &charge,
+        around.watch_errors,
+        &mut events,
+    )
+    .is_err()
+    {
         return (writer, Outcome::NoMemory);
     }
-    let Ok(listener) = opened(rt, alloc, &config, &charge, input) else {
+    let Ok(listener) = opened(rt, alloc, &config, &charge, around.input, &mut events) else {
         return (writer, Outcome::CannotListen);
     };
     let ended = serve_with(rt, alloc, config, &listener, &charge, writer);
     end_admin(rt, charge.admin.as_str());
+    say_end(rt, alloc, &mut events, &charge, &ended.1);
     ended
 }
 

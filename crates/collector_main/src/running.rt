@@ -6,7 +6,7 @@ ghost use Rattle.collector_main.specs.Outcomes.{served_to};
 
 use crate::program::Outcome;
 use crate::sending::send_with;
-use collector_serve::{Charge, StoppingSink, WallClock, drivers, serve_on};
+use collector_serve::{Charge, SteadyClock, StoppingSink, drivers, serve_on};
 use drop_ledger::Report;
 use pipeline::{Machine, RunContext, ServeFault};
 use span_sink::WriteSink;
@@ -56,7 +56,7 @@ fn print_with<'s, T: Net + Machine, W: Write + Drop>(
         Err(error) if error.kind() == ErrorKind::OutOfMemory => return (writer, Outcome::NoMemory),
         Err(_) => return (writer, Outcome::CannotListen),
     };
-    let clock = WallClock::new(rt);
+    let clock = SteadyClock::new(rt);
     let stops = config.stops_at_output_fault;
     let written = WriteSink::new(writer);
     let sink = StoppingSink::new(written, &shared.stop, stops, &shared.board);

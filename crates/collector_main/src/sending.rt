@@ -9,7 +9,7 @@ use crate::program::Outcome;
 use crate::running::served_to;
 use batch_post::{BatchSink, KeepingSink, Retry};
 use collector_serve::{
-    Charge, ExportWatch, LineSpans, StoppingSink, WallClock, drivers, request_fields, serve_on,
+    Charge, ExportWatch, LineSpans, SteadyClock, StoppingSink, drivers, request_fields, serve_on,
     with_export_room,
 };
 use drop_ledger::Report;
@@ -145,7 +145,7 @@ fn serve_through<'s, D: Driver + Send + Drop, T: Machine, S: Sink + Drop>(
     ensures sink { SinkAnswers (S.taken sink) (S.failures sink) (S.taken result.0) (S.failures result.0) result.1 }
     ensures ran { CoreRunTells config (S.taken sink) (S.failures sink) (S.taken result.0) (S.failures result.0) result.1 }
 {
-    let clock = WallClock::new(rt);
+    let clock = SteadyClock::new(rt);
     let stops = config.stops_at_output_fault;
     let sink = StoppingSink::new(sink, &shared.stop, stops, &shared.silent);
     let config = with_export_room(config);

@@ -1,6 +1,7 @@
 -- Worked rows, computed: a process that may take 800 bytes, and requests to a backend.
 -- They serve the definitions that `MemoryRule`, `request_fields` and `with_export_room` promise.
 use Rattle.std.specs.Prelude.{◌≡◌, ℕ, true, false, [], ◌∷◌, map, codes, refl}
+use Rattle.collector_serve.specs.Moments.{moment_after}
 use Rattle.collector_serve.specs.Requests.{room_of, request_fields}
 use Rattle.collector_serve.specs.Memory.{MemoryState, is_short, is_shorter, memory_after}
 
@@ -53,3 +54,10 @@ rooms = (refl, refl, refl)
 fields : request_fields (codes "h:1") (record { name = codes "X-Tenant"; value = codes "t1" } ∷ [])
     ≡ (codes "Host", codes "h:1") ∷ (codes "Content-Type", codes "application/json") ∷ (codes "X-Tenant", codes "t1") ∷ []
 fields = refl
+
+-- milliseconds behind the start, rounded down, and at most the greatest moment
+moments_after : map (moment_after 1700000000000) (0 ∷ 999999 ∷ 1000000 ∷ 2500000000 ∷ []) ≡ 1700000000000 ∷ 1700000000000 ∷ 1700000000001 ∷ 1700000002500 ∷ []
+moments_after = refl
+
+latest_moment : moment_after 18446744073709551614 5000000 ≡ 18446744073709551615
+latest_moment = refl

@@ -1,5 +1,6 @@
 //! The thread that answers those in charge of a collector.
 use crate::charge::{Charge, InCharge};
+use crate::serving::port_alone;
 use admin_http::serve;
 use std::alloc::Global;
 use std::fs::Permissions;
@@ -110,8 +111,27 @@ pub fn start_admin<
             start(rt, alloc, Door::Path(listener), charge)
         }
         None => {
-            let listener = TcpListener::bind(rt, address)?;
+            let listener = bind_port(rt, alloc, address)?;
             start(rt, alloc, Door::Port(listener), charge)
+        }
+    }
+}
+
+/// Listens at `address:port`, or by `:port` at every address of the machine.
+fn bind_port<R: Net<Listener = TcpListener, Stream = TcpStream>>(
+    rt: &R,
+    alloc: Global,
+    address: &str,
+) -> io::Result<TcpListener> {
+    let Some(port) = port_alone(address) else {
+        return TcpListener::bind(rt, address);
+    };
+    let every = format!(in alloc; "[::]:{port}")?;
+    match TcpListener::bind(rt, every.as_str()) {
+        Ok(listener) => Ok(listener),
+        Err(_) => {
+            let every = format!(in alloc; "0.0.0.0:{port}")?;
+            TcpListener::bind(rt, every.as_str())
         }
     }
 }

@@ -2,7 +2,7 @@
 ghost use Rattle.std.specs.Prelude.{◌≡◌};
 
 use crate::board::Board;
-use crate::stop_mark::StopMark;
+use crate::stop_mark::{Closer, StopMark};
 use admin_http::Admin;
 use http_lane::HasStopMark;
 use lane_driver::Loads;
@@ -103,7 +103,7 @@ impl<'c> Admin for InCharge<'c> {
     ghost configuration = { λ a. string_bytes a.charge.now.configuration };
 
     fn close(&mut self) {
-        self.charge.stop.set();
+        self.charge.stop.set_by(Closer::Admin);
         self.is_closed = true;
     }
 
@@ -145,7 +145,7 @@ fn read_to_end<I: Read + Drop, R: Wait>(rt: &R, input: I, charge: &Charge) {
             Ok(n) if n > 0 => {}
             Err(error) if error.kind() == io::ErrorKind::Interrupted => {}
             _ => {
-                charge.stop.set();
+                charge.stop.set_by(Closer::Input);
                 return;
             }
         }

@@ -1,9 +1,9 @@
-//! `tsc serve` without its command line: what drives each lane on a listener, ticks of the system's clock and a mark to
+//! `tsc serve` without its command line: what drives each lane on a listener, ticks of a clock and a mark to
 //! stop, over the pipeline; beside it the address for those in charge, the look at the process's memory, and what a
 //! backend is told and tells where lines are sent.
 //!
 //! ```
-//! let listener = listen(&rt, "127.0.0.1:4318")?;
+//! let listener = listen(&rt, alloc, "127.0.0.1:4318")?;
 //! let lanes = drivers(&rt, alloc, &config, &listener, &charge.loads, &charge.stop)?;
 //! let (sink, answer, not_begun) = serve_on(&context, config, lanes, sink);
 //! ```
@@ -12,12 +12,15 @@
 mod admin_thread;
 mod board;
 mod charge;
+mod event_writer;
 mod export_watch;
 mod line_spans;
+mod log_watch;
 mod memory_rule;
 mod memory_watch;
 mod requests;
 mod serving;
+mod steady_clock;
 mod stop_mark;
 mod stopping_sink;
 mod ticker;
@@ -26,13 +29,15 @@ mod wall_clock;
 pub use admin_thread::{end_admin, socket_path, start_admin};
 pub use board::Board;
 pub use charge::{Charge, close_at_end};
+pub use event_writer::EventWriter;
 pub use export_watch::ExportWatch;
 pub use line_spans::LineSpans;
+pub use log_watch::start_log_watch;
 pub use memory_rule::MemoryRule;
 pub use memory_watch::{MEMORY_ACCOUNT, start_memory_watch};
 pub use requests::{request_fields, with_export_room};
-pub use serving::{drivers, listen, serve_on};
-pub use stop_mark::StopMark;
+pub use serving::{drivers, listen, port_alone, serve_on};
+pub use steady_clock::SteadyClock;
+pub use stop_mark::{Closer, StopMark};
 pub use stopping_sink::StoppingSink;
 pub use ticker::Ticker;
-pub use wall_clock::WallClock;

@@ -23,8 +23,37 @@ use std::sync::{Arc, Wait};
 use std::time::Clock;
 use tsc_config::Config;
 
-/// A listener at this address (`address:port`) that doesn't block, with the longest backlog that the system allows.
+/// A mebibyte.
+const MEBIBYTE: u64 = 1_048_576;
+
+/// A listener at this address (`address:port`, or `:port` for every address of the machine) that doesn't block, with the
+/// longest backlog that the system allows.
 pub fn listen<R: Net<Listener = TcpListener, Stream = TcpStream>>(
+    rt: &R,
+    alloc: Global,
+    address: &str,
+) -> io::Result<TcpListener> {
+    let Some(port) = port_alone(address) else {
+        return listen_at(rt, address);
+    };
+    // At those of IPv6 those of IPv4 are taken too, where the system has both.
+    let every = format!(in alloc; "[::]:{port}")?;
+    match listen_at(rt, every.as_str()) {
+        Ok(listener) => Ok(listener),
+        Err(_) => {
+            let every = format!(in alloc; "0.0.0.0:{port}")?;
+            listen_at(rt, every.as_str())
+        }
+    }
+}
+
+/// The port of an address that has nothing else, as the Collector writes every address of the machine.
+pub fn port_alone(address: &str) -> Option<&str> {
+    address.strip_prefix(':')
+}
+
+/// A listener at this address.
+fn listen_at<R: Net<Listener = TcpListener, Stream = TcpStream>>(
     rt: &R,
     address: &str,
 ) -> io::Result<TcpListener> {
@@ -93,9 +122,11 @@ fn share(connections: usize, lanes: usize) -> usize
 fn allowed_by(config: &Config) -> Allowed
     ensures { result ≡ allowed_by config.now }
 {
+    let bytes = config.max_request_mib.saturating_mul(MEBIBYTE);
     Allowed {
         gzip: config.accept_gzip,
         close: config.admin.as_str().is_empty(),
+        body_limit: u32::try_from(bytes).unwrap_or(u32::MAX),
     }
 }
 

@@ -2,10 +2,32 @@
 use http_lane::HasStopMark;
 use std::sync::OnceLock;
 
+/// Who asked the collector to close.
+#[derive(Clone, Copy, PartialEq, Eq)]
+pub enum Closer {
+    /// A request at the address of requests, or an output that failed.
+    Run,
+    /// Somebody in charge, at the address for that.
+    Admin,
+    /// The end of the standard input.
+    Input,
+}
+
+impl Closer {
+    /// Its name in a log.
+    pub fn name(self) -> &'static str {
+        match self {
+            Closer::Run => "request",
+            Closer::Admin => "admin",
+            Closer::Input => "end_of_input",
+        }
+    }
+}
+
 /// A mark that any thread may set, and that stays set: what is written once behind a `&` can't be taken back there.
 #[derive(Drop)]
 pub struct StopMark {
-    set: OnceLock<()>,
+    set: OnceLock<Closer>,
 }
 
 impl StopMark {
@@ -13,6 +35,20 @@ impl StopMark {
     pub fn new() -> Self {
         StopMark {
             set: OnceLock::new(),
+        }
+    }
+
+    /// Sets the mark. The first one who did is known.
+    pub fn set_by(&self, closer: Closer) {
+        // An `Err` says that it is set, or that another thread is setting it.
+        let _ = self.set.try_set(closer);
+    }
+
+    /// Who set the mark.
+    pub fn closer(&self) -> Option<Closer> {
+        match self.set.get() {
+            Some(closer) => Some(*closer),
+            None => None,
         }
     }
 }
@@ -23,7 +59,6 @@ impl HasStopMark for StopMark {
     }
 
     fn set(&self) {
-        // An `Err` says that it is set, or that another thread is setting it.
-        let _ = self.set.try_set(());
+        self.set_by(Closer::Run);
     }
 }

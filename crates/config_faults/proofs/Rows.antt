@@ -43,6 +43,7 @@ ranges =
     ∷ record { key = codes "send_batch_size"; below = pos 0; lowest = 1; greatest = 8192; above = 8193 }
     ∷ record { key = codes "max_connections"; below = pos 0; lowest = 1; greatest = 65536; above = 65537 }
     ∷ record { key = codes "memory_limit_mib"; below = negsuc 0; lowest = 0; greatest = 1048576; above = 1048577 }
+    ∷ record { key = codes "max_request_mib"; below = pos 0; lowest = 1; greatest = 64; above = 65 }
     ∷ record { key = codes "maximum_trace_size_bytes"; below = negsuc 0; lowest = 0; greatest = 1073741824; above = 1073741825 }
     ∷ record { key = codes "tick_ms"; below = pos 0; lowest = 1; greatest = 60000; above = 60001 }
     ∷ []
@@ -112,6 +113,11 @@ choices_allowed : map (each_setting_fault top_settings) (no_members
     ∷ member (codes "close_at_end_of_input") (boolean false) no_members ∷ member (codes "close_at_end_of_input") (boolean true) no_members ∷ [])
     ≡ None ∷ None ∷ None ∷ None ∷ None ∷ None ∷ None ∷ None ∷ None ∷ []
 choices_allowed = refl
+
+log_forms : map (each_setting_fault top_settings)
+    (one_text (codes "log") (codes "text") ∷ one_text (codes "log") (codes "json") ∷ one_text (codes "log") (codes "off") ∷ one_text (codes "log") (codes "Text") ∷ one_text (codes "log") [] ∷ member (codes "log") (boolean true) no_members ∷ [])
+    ≡ None ∷ None ∷ None ∷ Some OutOfRange ∷ Some OutOfRange ∷ Some WrongType ∷ []
+log_forms = refl
 
 -- another text, an empty one, and one of another key
 choices_refused : map (each_setting_fault top_settings) (one_text (codes "queue_full") (codes "Retry") ∷ one_text (codes "queue_full") [] ∷ one_text (codes "queue_full") (codes "stop")

@@ -1,5 +1,5 @@
 -- What is wrong with the table of a configuration: the fault of least number among those of all its rows.
-use Rattle.std.specs.Prelude.{ℕ, ℤ, pos, ◌&&◌, ◌||◌, List, [], ◌∷◌, codes, Option, None, Some, if◌then◌else◌, int_le, nat_lt}
+use Rattle.std.specs.Prelude.{Bool, ℕ, ℤ, pos, ◌&&◌, ◌||◌, List, [], ◌∷◌, codes, Option, None, Some, if◌then◌else◌, int_le, nat_lt}
 use Rattle.std.specs.Option.{is_some}
 use Rattle.std.specs.Str.{bytes_eq}
 use Rattle.toml.specs.Data.{Data, string, integer, float, boolean, array, table, Items, no_items, item, Members, no_members, member, get_member}
@@ -98,6 +98,15 @@ abbrev pub choice_fault : ChoiceRow → Data → Option ConfigFault
 choice_fault row (string text) = if bytes_eq text row.default || bytes_eq text row.other then None else Some OutOfRange
 choice_fault row _ = Some WrongType
 
+-- the forms of the log
+abbrev pub is_log_form : (text : List ℕ) → Bool
+is_log_form text = bytes_eq text (codes "text") || (bytes_eq text (codes "json") || bytes_eq text (codes "off"))
+
+-- one of them is wanted
+abbrev pub log_fault : Data → Option ConfigFault
+log_fault (string text) = if is_log_form text then None else Some OutOfRange
+log_fault _ = Some WrongType
+
 -- a text that names a type of policy is wanted
 abbrev pub type_fault : Data → Option ConfigFault
 type_fault (string text) = named_fault (type_of (string text))
@@ -161,6 +170,7 @@ wanted_fault value_is.Endpoint = endpoint_fault
 wanted_fault value_is.Headers = headers_fault
 wanted_fault value_is.PolicyType = type_fault
 wanted_fault (value_is.Choice key) = choice_fault (choice_row key)
+wanted_fault value_is.LogForm = log_fault
 wanted_fault value_is.Percentage = percentage_fault
 wanted_fault (value_is.Array kind) = array_fault (item_fault kind)
 

@@ -29,9 +29,13 @@ has_key rows key = list_any (λ (s : Setting). bytes_eq s.name key) rows
 abbrev pub is_setting : PolicyType → List ℕ → Bool
 is_setting kind key = has_key (settings kind) key || is_sub_key kind key
 
+-- the tables of a configuration
+abbrev pub is_table_key : List ℕ → Bool
+is_table_key key = bytes_eq key (codes "decision_cache") || bytes_eq key (codes "policies") || bytes_eq key (codes "export")
+
 -- the keys of a table of this kind
 unfoldable pub is_key : TableKind → List ℕ → Bool
-is_key table_is.Config key = has_key top_settings key || (bytes_eq key (codes "decision_cache") || bytes_eq key (codes "policies") || bytes_eq key (codes "export"))
+is_key table_is.Config key = has_key top_settings key || is_table_key key
 is_key table_is.DecisionCache key = has_key cache_settings key
 is_key table_is.Export key = has_key export_settings key
 is_key (table_is.Policy kind) key = bytes_eq key (codes "name") || bytes_eq key (codes "type") || has_settings kind && bytes_eq key (type_name kind)

@@ -36,6 +36,7 @@ number_row number_is.ExportCapacity = record { name = codes "export_capacity"; d
 number_row number_is.SendBatchSize = record { name = codes "send_batch_size"; default = 512; lowest = 1; greatest = 8192 }
 number_row number_is.MaxConnections = record { name = codes "max_connections"; default = 1024; lowest = 1; greatest = 65536 }
 number_row number_is.MemoryLimit = record { name = codes "memory_limit_mib"; default = 0; lowest = 0; greatest = 1048576 }
+number_row number_is.MaxRequest = record { name = codes "max_request_mib"; default = 4; lowest = 1; greatest = 64 }
 number_row number_is.MaximumTraceSize = record { name = codes "maximum_trace_size_bytes"; default = 0; lowest = 0; greatest = 1073741824 }
 number_row number_is.Tick = record { name = codes "tick_ms"; default = 1000; lowest = 1; greatest = 60000 }
 number_row number_is.SampledCacheSize = record { name = codes "sampled_cache_size"; default = 0; lowest = 0; greatest = 1000000 }
@@ -67,6 +68,7 @@ pub record TextRow : Type 0 where
 -- the table of the keys of texts that have a default
 abbrev pub text_row : TextKey → TextRow
 text_row text_is.Listen = record { name = codes "listen"; default = codes "127.0.0.1:4318" }
+text_row text_is.Log = record { name = codes "log"; default = codes "text" }
 
 -- the program's default
 abbrev pub default_of : DefaultValue → Data
@@ -90,6 +92,10 @@ choice_setting key = defaulted (choice_row key).name (value_is.Choice key) (stri
 
 abbrev pub text_setting : TextKey → Setting
 text_setting key = defaulted (text_row key).name value_is.Text (string (text_row key).default)
+
+-- of the form of the log
+abbrev pub log_setting : TextKey → Setting
+log_setting key = defaulted (text_row key).name value_is.LogForm (string (text_row key).default)
 
 -- of one of two names of a number, of which neither has a default of its own
 abbrev pub root_setting : NumberKey → Setting
@@ -115,8 +121,10 @@ other_settings =
     ∷ number_setting number_is.SendBatchSize
     ∷ number_setting number_is.MaxConnections
     ∷ number_setting number_is.MemoryLimit
+    ∷ number_setting number_is.MaxRequest
     ∷ number_setting number_is.MaximumTraceSize
     ∷ text_setting text_is.Listen
+    ∷ log_setting text_is.Log
     ∷ switch (codes "accept_gzip")
     ∷ switch (codes "sample_on_first_match")
     ∷ choice_setting choice_is.QueueFull

@@ -5,7 +5,7 @@ ghost use Rattle.toml.specs.View.{view, table_view};
 ghost use Rattle.config_faults.specs.Faults.{unknown_fault};
 ghost use Rattle.config_faults.specs.Keys as spec;
 ghost use Rattle.config_faults.specs.PolicyTypes.{has_settings};
-ghost use Rattle.config_faults.specs.Tables.{setting_of};
+ghost use Rattle.config_faults.specs.Tables.{setting_of, top_settings as settings_at_the_top};
 
 use crate::fault::ConfigFault;
 use crate::policy_types::PolicyType;
@@ -63,15 +63,27 @@ fn has_key(settings: &[Setting], key: &str) -> bool
     false
 }
 
+/// Whether the settings of a configuration have this key.
+fn is_top_setting(key: &str) -> bool
+    ensures { result ≡ spec.has_key settings_at_the_top key.now }
+{
+    has_key(&top_settings(), key)
+}
+
+/// Whether a configuration has a table, or tables, of this name.
+fn is_table_key(key: &str) -> bool
+    ensures { result ≡ spec.is_table_key key.now }
+{
+    matches!(key, "decision_cache" | "policies" | "export")
+}
+
 /// Whether a table of this kind has this key.
 #[tactic(auto, unfolding(crate::specs::Keys::is_key))]
 pub fn is_key(kind: TableKind, key: &str) -> bool
     ensures { result ≡ spec.is_key kind key.now }
 {
     match kind {
-        TableKind::Config => {
-            has_key(&top_settings(), key) || matches!(key, "decision_cache" | "policies" | "export")
-        }
+        TableKind::Config => { is_top_setting(key) || is_table_key(key) }
         TableKind::DecisionCache => has_key(&cache_settings(), key),
         TableKind::Export => has_key(&export_settings(), key),
         TableKind::Policy(kind) => {

@@ -30,6 +30,8 @@ pub enum ValueKind {
     PolicyType,
     /// One of the two texts of this key.
     Choice(ChoiceKey),
+    /// A text that names a form of the log: `text`, `json` or `off`.
+    LogForm,
     /// A whole number from 0 to 100, or a number between with at most four decimals.
     Percentage,
     /// An array of such items.

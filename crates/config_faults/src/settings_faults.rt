@@ -143,6 +143,7 @@ pub fn value_fault(value: &Value, wanted: ValueKind) -> Option<ConfigFault>
         (ValueKind::Text, Value::String(_)) => None,
         (ValueKind::Array(kind), Value::Array(items)) => items_fault(items, kind),
         (ValueKind::Choice(key), Value::String(text)) => choice_fault(key, text.as_str()),
+        (ValueKind::LogForm, Value::String(text)) => log_fault(text.as_str()),
         (ValueKind::Endpoint, Value::String(text)) => {
             if is_endpoint(text.as_bytes()) {
                 None
@@ -160,6 +161,16 @@ pub fn value_fault(value: &Value, wanted: ValueKind) -> Option<ConfigFault>
             None => Some(ConfigFault::OutOfRange),
         },
         _ => Some(ConfigFault::WrongType),
+    }
+}
+
+/// The fault that a text is no form of the log.
+fn log_fault(text: &str) -> Option<ConfigFault>
+    ensures { result ≡ spec.log_fault (string text.now) }
+{
+    match text {
+        "text" | "json" | "off" => None,
+        _ => Some(ConfigFault::OutOfRange),
     }
 }
 

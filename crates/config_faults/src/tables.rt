@@ -19,6 +19,7 @@ pub enum NumberKey {
     SendBatchSize,
     MaxConnections,
     MemoryLimit,
+    MaxRequest,
     MaximumTraceSize,
     Tick,
     SampledCacheSize,
@@ -52,6 +53,7 @@ impl NumberKey {
             NumberKey::SendBatchSize => ("send_batch_size", 512, 1, 8192),
             NumberKey::MaxConnections => ("max_connections", 1024, 1, 65_536),
             NumberKey::MemoryLimit => ("memory_limit_mib", 0, 0, 1_048_576),
+            NumberKey::MaxRequest => ("max_request_mib", 4, 1, 64),
             NumberKey::MaximumTraceSize => ("maximum_trace_size_bytes", 0, 0, 1_073_741_824),
             NumberKey::Tick => ("tick_ms", 1000, 1, 60_000),
             NumberKey::SampledCacheSize => ("sampled_cache_size", 0, 0, 1_000_000),
@@ -93,6 +95,7 @@ impl ChoiceKey {
 #[derive(Clone, Copy)]
 pub enum TextKey {
     Listen,
+    Log,
 }
 
 impl TextKey {
@@ -103,12 +106,13 @@ impl TextKey {
     {
         match self {
             TextKey::Listen => ("listen", "127.0.0.1:4318"),
+            TextKey::Log => ("log", "text"),
         }
     }
 }
 
 /// The settings of a configuration that are no tables.
-pub fn top_settings() -> [Setting; 21]
+pub fn top_settings() -> [Setting; 23]
     ensures { map spec.setting_of result ≡ spec.top_settings }
 {
     [
@@ -124,8 +128,10 @@ pub fn top_settings() -> [Setting; 21]
         number_setting(NumberKey::SendBatchSize),
         number_setting(NumberKey::MaxConnections),
         number_setting(NumberKey::MemoryLimit),
+        number_setting(NumberKey::MaxRequest),
         number_setting(NumberKey::MaximumTraceSize),
         text_setting(TextKey::Listen),
+        log_setting(TextKey::Log),
         Setting::Default("accept_gzip", ValueKind::Truth, DefaultValue::Off),
         Setting::Default("sample_on_first_match", ValueKind::Truth, DefaultValue::Off),
         choice_setting(ChoiceKey::QueueFull),
@@ -193,4 +199,11 @@ fn text_setting(key: TextKey) -> Setting
     ensures { spec.setting_of result ≡ spec.text_setting key }
 {
     Setting::Default(key.row().0, ValueKind::Text, DefaultValue::Text(key))
+}
+
+fn log_setting(key: TextKey) -> Setting
+    ensures { spec.setting_of result ≡ spec.log_setting key }
+{
+    let (name, _) = key.row();
+    Setting::Default(name, ValueKind::LogForm, DefaultValue::Text(key))
 }

@@ -88,6 +88,7 @@ pub fn value_text(
             let (_, default, other) = key.row();
             format!(in alloc; "{place}: {value} is none of {default}, {other}")
         }
+        ValueKind::LogForm => format!(in alloc; "{place}: {value} is none of text, json, off"),
         ValueKind::Endpoint => {
             format!(in alloc; "{place}: {value} is not of the form http://HOST:PORT/PATH")
         }
@@ -123,8 +124,11 @@ fn type_text(wanted: ValueKind) -> &'static str {
     match wanted {
         ValueKind::Integer(..) | ValueKind::Whole => "a whole number",
         ValueKind::Truth => "true or false",
-        ValueKind::Text | ValueKind::Endpoint | ValueKind::PolicyType | ValueKind::Choice(_) =>
-            "a text",
+        ValueKind::Text
+        | ValueKind::Endpoint
+        | ValueKind::PolicyType
+        | ValueKind::Choice(_)
+        | ValueKind::LogForm => "a text",
         ValueKind::Percentage => "a number",
         ValueKind::Array(_) => "an array",
         ValueKind::Headers => "a table of texts",

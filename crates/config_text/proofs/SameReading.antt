@@ -18,7 +18,8 @@ use Rattle.config_faults.specs.declared.tables.NumberKey.TheVariants as number_i
 use Rattle.config_faults.specs.declared.keys.TableKind.{TableKind}
 use Rattle.config_faults.specs.declared.keys.TableKind.TheVariants as table_is
 use Rattle.tsc_config.specs.Reading.{reading_of_table}
-use Rattle.tsc_config.specs.Values.{bounded_of, number_by, first_found, root_wait_of, cache_size, address_of, truth_of, is_other, export_in, export_of, config_of}
+use Rattle.tsc_config.specs.declared.log_form.LogForm.{LogForm}
+use Rattle.tsc_config.specs.Values.{bounded_of, number_by, first_found, root_wait_of, cache_size, address_of, truth_of, is_other, log_form_of, export_in, export_of, config_of}
 use Rattle.tsc_config.specs.declared.exports.Export.{Export}
 use Rattle.config_text.specs.Defaults.{number_default, defaults, cache_defaults, export_defaults}
 use Rattle.config_text.specs.Members.{Default, with_default, with_each, with_inner}
@@ -294,10 +295,12 @@ configs_same m =
       number_of number_is.SendBatchSize m refl refl refl refl refl,
       number_of number_is.MaxConnections m refl refl refl refl refl,
       number_of number_is.MemoryLimit m refl refl refl refl refl,
+      number_of number_is.MaxRequest m refl refl refl refl refl,
       number_of number_is.MaximumTraceSize m refl refl refl refl refl,
       number_of number_is.Tick m refl refl refl refl refl,
       plain (List ℕ) (address_of (codes "127.0.0.1:4318")) (codes "listen") (string (codes "127.0.0.1:4318")) m refl refl refl refl refl,
       bare (codes "admin") m refl refl refl refl,
+      plain LogForm log_form_of (codes "log") (string (codes "text")) m refl refl refl refl refl,
       plain Bool truth_of (codes "accept_gzip") (boolean false) m refl refl refl refl refl,
       choice_of choice_is.QueueFull m refl refl refl refl refl,
       choice_of choice_is.OutputFault m refl refl refl refl refl,

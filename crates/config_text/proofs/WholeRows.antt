@@ -13,7 +13,9 @@ nothing : with_defaults no_members
     (member (codes "export_capacity") (integer (pos 1024))
     (member (codes "lanes") (integer (pos 1))
     (member (codes "listen") (string (codes "127.0.0.1:4318"))
+    (member (codes "log") (string (codes "text"))
     (member (codes "max_connections") (integer (pos 1024))
+    (member (codes "max_request_mib") (integer (pos 4))
     (member (codes "maximum_trace_size_bytes") (integer (pos 0))
     (member (codes "memory_limit_mib") (integer (pos 0))
     (member (codes "num_traces") (integer (pos 50000))
@@ -24,7 +26,7 @@ nothing : with_defaults no_members
     (member (codes "sample_on_first_match") (boolean false)
     (member (codes "send_batch_size") (integer (pos 512))
     (member (codes "shards") (integer (pos 1))
-    (member (codes "tick_ms") (integer (pos 1000)) no_members)))))))))))))))))))
+    (member (codes "tick_ms") (integer (pos 1000)) no_members)))))))))))))))))))))
 unfolding with_defaults
 nothing = refl
 
@@ -40,6 +42,7 @@ served =
     (member (codes "lanes") (integer (pos 4))
     (member (codes "listen") (string (codes "127.0.0.1:4318"))
     (member (codes "max_connections") (integer (pos 4096))
+    (member (codes "max_request_mib") (integer (pos 20))
     (member (codes "memory_limit_mib") (integer (pos 1024))
     (member (codes "num_traces") (integer (pos 100000))
     (member (codes "output_fault") (string (codes "stop"))
@@ -49,7 +52,7 @@ served =
     (member (codes "root_wait_ms") (integer (pos 2000))
     (member (codes "send_batch_size") (integer (pos 512))
     (member (codes "shards") (integer (pos 4))
-    (member (codes "tick_ms") (integer (pos 500)) no_members))))))))))))))))))
+    (member (codes "tick_ms") (integer (pos 500)) no_members)))))))))))))))))))
 
 served_whole : with_defaults served ≡
     member (codes "accept_gzip") (boolean true)
@@ -61,7 +64,9 @@ served_whole : with_defaults served ≡
     (member (codes "export_capacity") (integer (pos 4096))
     (member (codes "lanes") (integer (pos 4))
     (member (codes "listen") (string (codes "127.0.0.1:4318"))
+    (member (codes "log") (string (codes "text"))
     (member (codes "max_connections") (integer (pos 4096))
+    (member (codes "max_request_mib") (integer (pos 20))
     (member (codes "maximum_trace_size_bytes") (integer (pos 0))
     (member (codes "memory_limit_mib") (integer (pos 1024))
     (member (codes "num_traces") (integer (pos 100000))
@@ -73,7 +78,7 @@ served_whole : with_defaults served ≡
     (member (codes "sample_on_first_match") (boolean false)
     (member (codes "send_batch_size") (integer (pos 512))
     (member (codes "shards") (integer (pos 4))
-    (member (codes "tick_ms") (integer (pos 500)) no_members)))))))))))))))))))))
+    (member (codes "tick_ms") (integer (pos 500)) no_members)))))))))))))))))))))))
 unfolding with_defaults served
 served_whole = refl
 

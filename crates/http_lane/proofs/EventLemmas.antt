@@ -300,14 +300,14 @@ or_assoc true b c = refl
 or_assoc false b c = refl
 
 -- what is done with a whole body answers it
-pub serves_answers : (is_packed : Bool) (body : Option (List ℕ)) (closing : Bool) (cause : Cause) → Serves is_packed body closing cause → answers cause ≡ true
-serves_answers is_packed body closing (accepts awaited) s = absurd s
-serves_answers is_packed body closing (refusal r i) s = refl
-serves_answers is_packed body closing close_asked s = refl
-serves_answers is_packed body closing starved s = refl
-serves_answers is_packed body closing stopping s = refl
-serves_answers is_packed body closing timed_out s = refl
-serves_answers is_packed body closing (submitted b m r c) s = refl
+pub serves_answers : (limit : ℕ) (is_packed : Bool) (body : Option (List ℕ)) (closing : Bool) (cause : Cause) → Serves limit is_packed body closing cause → answers cause ≡ true
+serves_answers limit is_packed body closing (accepts awaited) s = absurd s
+serves_answers limit is_packed body closing (refusal r i) s = refl
+serves_answers limit is_packed body closing close_asked s = refl
+serves_answers limit is_packed body closing starved s = refl
+serves_answers limit is_packed body closing stopping s = refl
+serves_answers limit is_packed body closing timed_out s = refl
+serves_answers limit is_packed body closing (submitted b m r c) s = refl
 
 has-append : (xs : List ConnectionEvent) (e : ConnectionEvent) → has_answer (xs ++ e ∷ []) ≡ (has_answer xs || answers e.cause)
 has-append [] e = or_false (answers e.cause)

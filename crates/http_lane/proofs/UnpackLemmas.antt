@@ -4,7 +4,6 @@ use Rattle.std.proofs.Common.{◌≡◌, ℕ, List, Bool, true, false, Option, S
 use Rattle.inflate.specs.declared.fault.GzipFault.{GzipFault}
 use Rattle.inflate.specs.declared.fault.GzipFault.TheVariants.{Broken, TooLong, NoMemory}
 use Rattle.inflate.specs.Answers.{Refuses}
-use Rattle.http_text.specs.declared.request.TheConstants.{BODY_LIMIT}
 use Rattle.http_text.specs.declared.request.RequestRefusal.TheVariants.{NotGzip, BodyTooLarge}
 use Rattle.http_lane.specs.declared.answer.Response.{Response}
 use Rattle.http_lane.specs.declared.answer.EventFate.{EventFate}
@@ -12,9 +11,9 @@ use Rattle.http_lane.specs.Connection.{Submission, refusal, starved}
 use Rattle.http_lane.specs.Engine.{IsFateOfText, Puts, Responds, text_of_answer, answer_to}
 use Rattle.http_lane.proofs.EventLemmas.{can_text}
 
-module _ {L : Type 0} (submits : L → Submission → L → Type 0) (old_text new_text : Option (List ℕ)) (lane : L) (body : List ℕ) (closing : Bool) where
-  by_fault : (fault : GzipFault) (fate : EventFate) → Refuses BODY_LIMIT body fault → IsFateOfText fate → Puts old_text new_text fate (text_of_answer (answer_to fault))
-      → Responds submits old_text new_text lane lane true (Some body) closing (true, fate)
+module _ {L : Type 0} (submits : L → Submission → L → Type 0) (old_text new_text : Option (List ℕ)) (lane : L) (limit : ℕ) (body : List ℕ) (closing : Bool) where
+  by_fault : (fault : GzipFault) (fate : EventFate) → Refuses limit body fault → IsFateOfText fate → Puts old_text new_text fate (text_of_answer (answer_to fault))
+      → Responds submits old_text new_text lane lane limit true (Some body) closing (true, fate)
   by_fault Broken fate why is puts =
       (refusal NotGzip false, (body, refl, why, refl), record { can = can_text fate (refusal NotGzip false) is refl; closes = refl; puts = puts; lane = refl })
   by_fault TooLong fate why is puts =
@@ -22,6 +21,6 @@ module _ {L : Type 0} (submits : L → Submission → L → Type 0) (old_text ne
   by_fault NoMemory fate why is puts = (starved, tt, record { can = can_text fate starved is refl; closes = refl; puts = puts; lane = refl })
 
   -- it is answered so
-  pub unfit_did : (fault : GzipFault) (told : Response) (fate : EventFate) → told ≡ answer_to fault → Refuses BODY_LIMIT body fault → IsFateOfText fate
-      → Puts old_text new_text fate (text_of_answer told) → Responds submits old_text new_text lane lane true (Some body) closing (true, fate)
+  pub unfit_did : (fault : GzipFault) (told : Response) (fate : EventFate) → told ≡ answer_to fault → Refuses limit body fault → IsFateOfText fate
+      → Puts old_text new_text fate (text_of_answer told) → Responds submits old_text new_text lane lane limit true (Some body) closing (true, fate)
   unfit_did fault told fate e why is puts = by_fault fault fate why is (subst (λ a. Puts old_text new_text fate (text_of_answer a)) e puts)

@@ -20,12 +20,12 @@ use Rattle.http_lane.specs.Turns.{answers, has_answer}
 use Rattle.http_lane.specs.Answer.{continue_text, answer_text, refusal_row, done_row, busy_row, closing_row, timeout_row, reply_row}
 
 -- what may be done with a whole body, as it came
-abbrev pub Serves : (is_packed : Bool) → Option (List ℕ) → Bool → Cause → Type 0
-Serves is_packed body closing starved = Unit {0}
-Serves is_packed body closing stopping = Unit {0}
-Serves is_packed body closing (refusal why is_head) = (came : List ℕ) × (body ≡ Some came) × IsUnfit is_packed came why × (is_head ≡ false)
-Serves is_packed body closing (submitted text moment reply closes) = (came : List ℕ) × (body ≡ Some came) × IsTextOf is_packed came text × (closes ≡ closing)
-Serves is_packed body closing _ = ⊥
+abbrev pub Serves : (limit : ℕ) → (is_packed : Bool) → Option (List ℕ) → Bool → Cause → Type 0
+Serves limit is_packed body closing starved = Unit {0}
+Serves limit is_packed body closing stopping = Unit {0}
+Serves limit is_packed body closing (refusal why is_head) = (came : List ℕ) × (body ≡ Some came) × IsUnfit limit is_packed came why × (is_head ≡ false)
+Serves limit is_packed body closing (submitted text moment reply closes) = (came : List ℕ) × (body ≡ Some came) × IsTextOf limit is_packed came text × (closes ≡ closing)
+Serves limit is_packed body closing _ = ⊥
 
 -- the body that is seen is this one, if there is one
 abbrev pub Sees : Option (Bor (List ℕ)) → Option (List ℕ) → Type 0
@@ -39,13 +39,13 @@ Advances stands awaits body Nothing r new = Rests r × awaits new r
 Advances stands awaits body (Refused x is_head) r new = (next : RequestReading) × Brings r (refusal x is_head) next
 Advances stands awaits body Close r new = (next : RequestReading) × Brings r close_asked next
 Advances stands awaits body (Accepted awaited) r new = (next : RequestReading) × Brings r (accepts awaited) next × stands new next
-Advances stands awaits body (Whole is_packed closing) r new =
-    (next : RequestReading) × stands new next × ((cause : Cause) → Serves is_packed body closing cause → Brings r cause next)
+Advances stands awaits body (Whole is_packed closing limit) r new =
+    (next : RequestReading) × stands new next × ((cause : Cause) → Serves limit is_packed body closing cause → Brings r cause next)
 
 -- something was found after which the connection can go on
 abbrev pub GoesOn : Brought → Type 0
 GoesOn (Accepted awaited) = Unit {0}
-GoesOn (Whole is_packed closing) = Unit {0}
+GoesOn (Whole is_packed closing limit) = Unit {0}
 GoesOn _ = ⊥
 
 -- the bytes of an answer
@@ -91,9 +91,9 @@ pub record Did {L : Type 0} (submits : L → Submission → L → Type 0) (old_t
   pub lane : SubmitsAll submits old (submission_by fate cause) new
 
 -- a whole body was served
-abbrev pub Responds : {L : Type 0} → (L → Submission → L → Type 0) → Option (List ℕ) → Option (List ℕ) → L → L → Bool → Option (List ℕ) → Bool → (Bool × EventFate) → Type 0
-Responds submits old_text new_text old new is_packed body closing r =
-    (cause : Cause) × Serves is_packed body closing cause × Did submits old_text new_text old new cause r.0 r.1
+abbrev pub Responds : {L : Type 0} → (L → Submission → L → Type 0) → Option (List ℕ) → Option (List ℕ) → L → L → (limit : ℕ) → Bool → Option (List ℕ) → Bool → (Bool × EventFate) → Type 0
+Responds submits old_text new_text old new limit is_packed body closing r =
+    (cause : Cause) × Serves limit is_packed body closing cause × Did submits old_text new_text old new cause r.0 r.1
 
 -- one step of serving, from a reading
 abbrev pub Acts : {E L : Type 0} → (stands awaits : E → RequestReading → Type 0) → (L → Submission → L → Type 0) → Option (List ℕ) → Option (List ℕ) → L → L → RequestReading → Option (Bool × EventFate × Bool) → E → Type 0

@@ -17,7 +17,7 @@ use crate::reads::{PIECE_LIMIT, Source};
 use crate::requests::Requests;
 use crate::texts::text_of;
 use drop_ledger::{Count, Counter};
-use http_text::{BODY_LIMIT, RequestRefusal};
+use http_text::RequestRefusal;
 use inflate::{GzipFault, gunzip};
 use lane_queue::Port;
 use lane_seq::{Conn, Lane, Reply};
@@ -109,7 +109,7 @@ fn submit<
     text: &[u8],
     says_close: bool,
 ) -> (bool, EventFate)
-    ensures { (is_packed : Bool) (body : List ℕ) → IsTextOf is_packed body text.now → Responds (Submits ShardPort.takes ShardPort.refuses) (Writer.contents writer.old) (Writer.contents writer.new) (intake lane.old conn.old (Ledger.counted counts.old)) (intake lane.new conn.new (Ledger.counted counts.new)) is_packed (Some body) says_close result }
+    ensures { (limit : ℕ) (is_packed : Bool) (body : List ℕ) → IsTextOf limit is_packed body text.now → Responds (Submits ShardPort.takes ShardPort.refuses) (Writer.contents writer.old) (Writer.contents writer.new) (intake lane.old conn.old (Ledger.counted counts.old)) (intake lane.new conn.new (Ledger.counted counts.new)) limit is_packed (Some body) says_close result }
 {
     let reply = lane.submit(lent.alloc, conn, text, lent.clock.now());
     if !count(counts, &reply) {
@@ -139,7 +139,7 @@ fn unfit(fault: GzipFault) -> Response
     }
 }
 
-/// Unpacks a body and serves its text.
+/// Unpacks a body and serves its text, which may have so many bytes.
 fn unpack<
     'l,
     ShardPort: Port<Item>,
@@ -155,10 +155,11 @@ fn unpack<
     writer: &mut Writer,
     body: &[u8],
     says_close: bool,
+    limit: u32,
 ) -> (bool, EventFate)
-    ensures { Responds (Submits ShardPort.takes ShardPort.refuses) (Writer.contents writer.old) (Writer.contents writer.new) (intake lane.old conn.old (Ledger.counted counts.old)) (intake lane.new conn.new (Ledger.counted counts.new)) true (Some body.now) says_close result }
+    ensures { Responds (Submits ShardPort.takes ShardPort.refuses) (Writer.contents writer.old) (Writer.contents writer.new) (intake lane.old conn.old (Ledger.counted counts.old)) (intake lane.new conn.new (Ledger.counted counts.new)) limit true (Some body.now) says_close result }
 {
-    match gunzip(lent.alloc, body, BODY_LIMIT) {
+    match gunzip(lent.alloc, body, limit as usize) {
         Ok(text) => submit(
             lent,
             lane,
@@ -189,8 +190,9 @@ fn respond<
     is_packed: bool,
     body: Option<&[u8]>,
     says_close: bool,
+    limit: u32,
 ) -> (bool, EventFate)
-    ensures { (given : Option (List ℕ)) → Sees body.entry given → Responds (Submits ShardPort.takes ShardPort.refuses) (Writer.contents writer.old) (Writer.contents writer.new) (intake lane.old conn.old (Ledger.counted counts.old)) (intake lane.new conn.new (Ledger.counted counts.new)) is_packed given says_close result }
+    ensures { (given : Option (List ℕ)) → Sees body.entry given → Responds (Submits ShardPort.takes ShardPort.refuses) (Writer.contents writer.old) (Writer.contents writer.new) (intake lane.old conn.old (Ledger.counted counts.old)) (intake lane.new conn.new (Ledger.counted counts.new)) limit is_packed given says_close result }
 {
     let Some(body) = body else {
         return (true, answer(lent.alloc, writer, &Response::Starved));
@@ -199,7 +201,7 @@ fn respond<
         return (true, answer(lent.alloc, writer, &Response::Stopping));
     }
     if is_packed {
-        return unpack(lent, lane, conn, counts, writer, body, says_close);
+        return unpack(lent, lane, conn, counts, writer, body, says_close, limit);
     }
     submit(lent, lane, conn, counts, writer, body, says_close)
 }
@@ -249,10 +251,11 @@ fn act<
         Brought::Whole {
             is_packed,
             says_close,
+            limit,
         } => {
             let body = engine.body();
             let (closes, fate) = respond(
-                lent, lane, conn, counts, writer, is_packed, body, says_close,
+                lent, lane, conn, counts, writer, is_packed, body, says_close, limit,
             );
             Some((closes, fate, true))
         }

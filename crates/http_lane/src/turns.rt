@@ -118,7 +118,7 @@ impl Exchange {
         let is_between = engine.is_between();
         self.since = since_after(is_between, begins, answered, self.since, moment);
         if is_between {
-            *spare = Some(engine);
+            *spare = kept(engine);
             return None;
         }
         self.engine = Some(engine);
@@ -212,6 +212,16 @@ fn taken(
         return Some(engine);
     }
     Requests::new(alloc, allowed).ok()
+}
+
+/// An engine between requests, to be kept for the next one; `None`: it holds more memory than is kept.
+fn kept(engine: Requests) -> Option<Requests>
+    ensures { (r : RequestReading) → Awaits engine r → IfSome result (λ kept. Awaits kept r) }
+{
+    if engine.is_roomy() {
+        return None;
+    }
+    Some(engine)
 }
 
 /// Bytes came to an engine that awaits them: all is done that they bring.

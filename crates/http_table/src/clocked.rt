@@ -21,6 +21,7 @@ use std::time::Clock;
 const PLAIN: Allowed = Allowed {
     gzip: false,
     close: true,
+    body_limit: 4_194_304,
 };
 
 /// One step.

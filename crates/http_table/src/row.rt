@@ -15,7 +15,8 @@ pub struct Setup {
     pub tail: Tail,
     /// `stopped`: the stop mark is set.
     pub is_stopped: bool,
-    /// `gzip`: packed bodies are taken. `never_closed`: `POST /close` isn't allowed.
+    /// `gzip`: packed bodies are taken. `never_closed`: `POST /close` isn't allowed. `limit=N`: a body may have so many
+    /// bytes, else 4 MiB.
     pub allowed: Allowed,
     /// `long`: it isn't cut in every two pieces, nor read a byte at a time.
     pub is_long: bool,
@@ -78,6 +79,14 @@ fn number(column: &str, name: &str) -> Option<u64> {
     None
 }
 
+/// How many bytes a body may have.
+fn limit(column: &str) -> u32 {
+    match number(column, "limit") {
+        Some(limit) if limit < 4_294_967_296 => limit as u32,
+        _ => 4_194_304,
+    }
+}
+
 /// What each read does once the bytes are gone.
 fn tail(column: &str) -> Tail {
     if says(column, "blocks") {
@@ -108,6 +117,7 @@ fn how(column: &str) -> Setup {
         allowed: Allowed {
             gzip: says(column, "gzip"),
             close: !says(column, "never_closed"),
+            body_limit: limit(column),
         },
         is_long: says(column, "long"),
         writes: says(column, "writes"),

@@ -16,6 +16,7 @@ pub fn serve_once(alloc: Global, input: &[u8]) -> Result<u64, AllocError> {
         allowed: Allowed {
             gzip: true,
             close: true,
+            body_limit: 4_194_304,
         },
         is_long: true,
         writes: false,

@@ -1,12 +1,17 @@
 -- What stands before the first place at which a test passes.
--- They serve the clauses of `media_type` and `has_word`, and `value` of `blank_len`.
+-- They serve the clauses of `media_type`, `has_word` and `has_foreign_field`, and `value` of `blank_len`.
 use Rattle.std.proofs.Common.{◌≡◌, suc, ◌<◌, ◌≤◌, ◌+◌, [], ◌∷◌, ◌++◌, get_or, ◌&&◌, true, false, length, take, ℕ, List, Option, Some, None, Bool, cond, refl, ap, sym, ◌∙◌, arith}
-use Rattle.std.specs.Prelude.{nat_lt, position}
-use Rattle.std.specs.List.{before_first, position_or_len, position_from, list_all}
+use Rattle.std.specs.Prelude.{nat_lt, position, map, ◌||◌}
+use Rattle.std.specs.List.{before_first, position_or_len, position_from, list_all, list_any}
 use Rattle.std.proofs.lemmas.List.{take_all, take_more}
 use Rattle.std.proofs.lemmas.Iterator.Adapters.{position_from-zero}
 use borrow.Author.Tests.{ltb-true, ltb-false}
 use Rattle.std.specs.Option.{option_map}
+use Rattle.std.proofs.lemmas.List.{map-append}
+use Rattle.std.proofs.lemmas.List.Folds.{list_any-append}
+use Rattle.httparse.specs.declared.spans.HeaderSpan.{HeaderSpan}
+use Rattle.httparse.specs.Spans.{header_bytes, span_bytes}
+use Rattle.http_text.specs.Fields.{Header}
 
 place_some : (t : Bool) (n at : ℕ) → cond t (Some n) None ≡ Some at → n ≡ at
 place_some true n at e = cc
@@ -71,3 +76,20 @@ position_more p (x ∷ xs) ys n e =
 
 pub position_within : (p : ℕ → Bool) (xs : List ℕ) (n : ℕ) → position p xs ≡ Some n → n < length xs
 position_within p xs n e = within_by (nat_lt (position_or_len p xs) (length xs)) (position_or_len p xs) (length xs) n refl e
+
+-- one header more
+pub any_more : (p : Header → Bool) (text : List ℕ) (spans : List HeaderSpan) (i : ℕ) (d : HeaderSpan) (before here : Bool) (name value : List ℕ) → i < length spans
+    → list_any p (map (header_bytes text) (take i spans)) ≡ before → here ≡ p (name, value) → name ≡ span_bytes text (get_or spans i d).name → value ≡ span_bytes text (get_or spans i d).value
+    → list_any p (map (header_bytes text) (take (i + 1) spans)) ≡ (before || here)
+any_more p text spans i d before here name value inside e h n v =
+    let header : Header = header_bytes text (get_or spans i d) in
+    let same : here ≡ p header = h ∙ ap (λ k. p (k, value)) n ∙ ap (λ k. p (span_bytes text (get_or spans i d).name, k)) v in
+    ap (λ s. list_any p (map (header_bytes text) s)) (take_more spans i d inside)
+    ∙ ap (list_any p) (map-append (header_bytes text) (take i spans) (get_or spans i d ∷ []))
+    ∙ list_any-append p (map (header_bytes text) (take i spans)) (header_bytes text (get_or spans i d) ∷ [])
+    ∙ ap (λ b. b || (p (header_bytes text (get_or spans i d)) || false)) e
+    ∙ ap (λ t. before || t) (or_false (p (header_bytes text (get_or spans i d))) ∙ sym same)
+  where
+    or_false : (s : Bool) → (s || false) ≡ s
+    or_false true = refl
+    or_false false = refl

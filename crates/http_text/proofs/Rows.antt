@@ -1,29 +1,37 @@
 -- Worked rows, computed: where a head ends and how many fields it has, what its parts come to, and the limits.
 -- They serve the definitions that `judge` and `cut_on` promise.
-use Rattle.std.proofs.Common.{◌≡◌, ◌++◌, true, false, refl, List, ℕ, Some, None, [], ◌∷◌}
-use Rattle.std.specs.Prelude.{codes}
+use Rattle.std.proofs.Common.{◌≡◌, ◌++◌, true, false, refl, List, ℕ, Some, None, [], ◌∷◌, arith}
+use Rattle.std.specs.Prelude.{codes, map}
 use Rattle.http_text.specs.declared.allowed.Allowed.{Allowed}
 use Rattle.http_text.specs.declared.lines.TheConstants.{PART_LIMIT}
-use Rattle.http_text.specs.declared.request.TheConstants.{BODY_LIMIT, FIELD_LIMIT}
+use Rattle.http_text.specs.declared.request.TheConstants.{FIELD_LIMIT}
 use Rattle.http_text.specs.declared.request.HeadVerdict.{HeadVerdict}
 use Rattle.http_text.specs.declared.request.HeadVerdict.TheVariants.{Refused, Close, Post as Posted}
-use Rattle.http_text.specs.declared.request.RequestRefusal.TheVariants.{BadRequest, NotFound, MethodNotAllowed, UnsupportedMediaType, BodyTooLarge}
+use Rattle.http_text.specs.declared.request.RequestRefusal.TheVariants.{BadRequest, NotFound, MethodNotAllowed, Forbidden, UnsupportedMediaType, GzipIsOff, UnsupportedCoding, BodyTooLarge}
 use Rattle.http_text.specs.declared.request.Framing.TheVariants.{Length, Chunked}
+use Rattle.http_text.specs.Body.{BySize, waits, refuses}
 use Rattle.http_text.specs.Lines.{head_len, trailer_len, line_len, blank_len}
-use Rattle.http_text.specs.Fields.{Header, framing, is_plain, is_packed, is_taken}
+use Rattle.http_text.specs.Fields.{Header, framing, is_plain, is_packed, is_taken, is_own_host, is_own_origin, is_own_site}
 use Rattle.http_text.specs.Head.{fits, posted, routed, verdict_by, field_lines}
 use Rattle.httparse.specs.Grammar.{trim_ows}
 use Rattle.httparse.specs.Ascii.{crlf_bytes}
 
--- what is allowed by default; with packed bodies; and where an address of its own closes
+-- what is allowed by default; with packed bodies; where an address of its own closes; and with bodies of 20 MiB, or of 7
+-- bytes
 abbrev by_default : Allowed
-by_default = record { gzip = false; close = true }
+by_default = record { gzip = false; close = true; body_limit = 4194304 }
 
 abbrev with_gzip : Allowed
-with_gzip = record { gzip = true; close = true }
+with_gzip = record { gzip = true; close = true; body_limit = 4194304 }
 
 abbrev never_closed : Allowed
-never_closed = record { gzip = false; close = false }
+never_closed = record { gzip = false; close = false; body_limit = 4194304 }
+
+abbrev with_large : Allowed
+with_large = record { gzip = false; close = false; body_limit = 20971520 }
+
+abbrev with_small : Allowed
+with_small = record { gzip = true; close = true; body_limit = 7 }
 
 abbrev line : List ℕ → List ℕ
 line text = text ++ crlf_bytes
@@ -40,13 +48,18 @@ posted_verdict : verdict_by by_default (codes "POST") (codes "/v1/traces") 1 ((c
 unfolding trim_ows
 posted_verdict = refl
 
--- how many bytes a head, a chunk line and a trailer may have, how many a body, and how many fields a section
-limits : PART_LIMIT ∷ BODY_LIMIT ∷ FIELD_LIMIT ∷ [] ≡ 16384 ∷ 4194304 ∷ 64 ∷ []
+-- how many bytes a head, a chunk line and a trailer may have, and how many fields a section
+limits : PART_LIMIT ∷ FIELD_LIMIT ∷ [] ≡ 16384 ∷ 64 ∷ []
 limits = refl
 
 -- a body of just so many bytes, and one of a byte more
-bodies_at_the_greatest : fits (Length 4194304) ∷ fits (Length 4194305) ∷ [] ≡ true ∷ false ∷ []
+bodies_at_the_greatest : fits 4194304 (Length 4194304) ∷ fits 4194304 (Length 4194305) ∷ [] ≡ true ∷ false ∷ []
 bodies_at_the_greatest = refl
+
+bodies_at_another_limit : fits 20971520 (Length 20971520) ∷ fits 20971520 (Length 20971521) ∷ fits 7 (Length 7)
+    ∷ fits 7 (Length 8) ∷ fits 0 (Length 0) ∷ fits 0 (Length 1) ∷ fits 7 Chunked ∷ []
+    ≡ true ∷ false ∷ true ∷ false ∷ true ∷ false ∷ true ∷ []
+bodies_at_another_limit = refl
 
 -- empty lines in front of a head are no fields of it: two of them, of 2 bytes and of 1, and a head with 1 field
 behind_empty_lines : List ℕ
@@ -130,6 +143,62 @@ by_target = refl
 close_of_anything : routed by_default (codes "POST") (codes "/close") [] (Length 4194306) ≡ Close
 close_of_anything = refl
 
+-- hosts that no site of the internet can have, with a port or without one: addresses of both versions, names without a
+-- dot, none
+own_hosts : map is_own_host
+    (codes "127.0.0.1" ∷ codes "10.1.2.3:4319" ∷ codes "[::1]" ∷ codes "[fe80::1.2.3.4]:4318" ∷ codes "localhost:4319" ∷ codes "collector:4319" ∷ codes "tsc" ∷ [] ∷ codes ":4319" ∷ [])
+    ≡ true ∷ true ∷ true ∷ true ∷ true ∷ true ∷ true ∷ true ∷ true ∷ []
+own_hosts = refl
+
+foreign_hosts : map is_own_host
+    (codes "evil.example" ∷ codes "evil.example:4319" ∷ codes "127.0.0.1.evil.example" ∷ codes "localhost.evil.example:4318" ∷ codes "evil." ∷ codes "1.2.3.x" ∷ [])
+    ≡ false ∷ false ∷ false ∷ false ∷ false ∷ false ∷ []
+foreign_hosts = refl
+
+-- an `Origin` is the host's where it is `http://` and just the host, in any letters
+origins : map (is_own_origin (codes "box:4319"))
+    (codes "http://box:4319" ∷ codes "HTTP://Box:4319" ∷ codes "https://box:4319" ∷ codes "http://box" ∷ codes "http://box:43191" ∷ codes "http://other:4319" ∷ codes "null" ∷ codes "http:/" ∷ [] ∷ codes "box:4319" ∷ [])
+    ≡ true ∷ true ∷ false ∷ false ∷ false ∷ false ∷ false ∷ false ∷ false ∷ false ∷ []
+origins = refl
+
+sites : map is_own_site (codes "same-origin" ∷ codes "none" ∷ codes "Same-Origin" ∷ codes "same-site" ∷ codes "cross-site" ∷ [] ∷ [])
+    ≡ true ∷ true ∷ true ∷ false ∷ false ∷ false ∷ []
+sites = refl
+
+-- a request to close with these fields: what a client says that is no browser, a page of the address itself, a page of
+-- another site, a form whose origin is hidden, one of two origins, and a name that leads to the address
+close_of : List ℕ → List Header → HeadVerdict
+close_of host fields = verdict_by by_default (codes "POST") (codes "/close") 1 ((codes "Host", host) ∷ fields)
+
+closes : close_of (codes "127.0.0.1:4318") [] ∷ close_of (codes "tsc") []
+    ∷ close_of (codes "127.0.0.1:4318") ((codes "origin", codes "http://127.0.0.1:4318") ∷ (codes "sec-fetch-site", codes "same-origin") ∷ [])
+    ∷ close_of (codes "127.0.0.1:4318") ((codes "Sec-Fetch-Site", codes "none") ∷ [])
+    ∷ close_of (codes "127.0.0.1:4318") ((codes "Original", codes "http://evil.example") ∷ [])
+    ∷ [] ≡ Close ∷ Close ∷ Close ∷ Close ∷ Close ∷ []
+unfolding close_of
+closes = refl
+
+closes_of_others : close_of (codes "127.0.0.1:4318") ((codes "Origin", codes "http://evil.example") ∷ [])
+    ∷ close_of (codes "127.0.0.1:4318") ((codes "ORIGIN", codes "null") ∷ [])
+    ∷ close_of (codes "127.0.0.1:4318") ((codes "Origin", codes "http://127.0.0.1:4318") ∷ (codes "Origin", codes "http://evil.example") ∷ [])
+    ∷ close_of (codes "127.0.0.1:4318") ((codes "Origin", codes "http://127.0.0.1:4318") ∷ (codes "Sec-Fetch-Site", codes "cross-site") ∷ [])
+    ∷ close_of (codes "127.0.0.1:4318") ((codes "Sec-Fetch-Site", codes "same-site") ∷ [])
+    ∷ close_of (codes "evil.example:4318") []
+    ∷ close_of (codes "evil.example:4318") ((codes "Origin", codes "http://evil.example:4318") ∷ []) ∷ []
+    ≡ Refused Forbidden false ∷ Refused Forbidden false ∷ Refused Forbidden false ∷ Refused Forbidden false
+    ∷ Refused Forbidden false ∷ Refused Forbidden false ∷ Refused Forbidden false ∷ []
+unfolding close_of
+closes_of_others = refl
+
+-- what has no power isn't held against anybody: traces, and where there is no such target
+traces_of_others : verdict_by never_closed (codes "POST") (codes "/close") 1 ((codes "Host", codes "evil.example") ∷ [])
+    ∷ verdict_by by_default (codes "GET") (codes "/close") 1 ((codes "Host", codes "evil.example") ∷ [])
+    ∷ verdict_by by_default (codes "POST") (codes "/v1/traces") 1 ((codes "Host", codes "evil.example") ∷ json_field ∷ (codes "Origin", codes "http://a.example") ∷ []) ∷ []
+    ≡ Refused NotFound false ∷ Refused MethodNotAllowed false
+    ∷ Posted (record { framing = Length 0; expects_continue = false; is_packed = false; says_close = false }) ∷ []
+unfolding json_field trim_ows
+traces_of_others = refl
+
 -- where it isn't allowed there is no such target, whatever the method
 close_not_allowed : routed never_closed (codes "POST") (codes "/close") [] (Length 5)
     ∷ routed never_closed (codes "HEAD") (codes "/close") [] (Length 5)
@@ -141,7 +210,7 @@ close_not_allowed = refl
 beyond_the_limit : posted by_default (codes "POST") ((codes "Content-Type", codes "text/plain") ∷ []) (Length 4194305)
     ∷ posted by_default (codes "POST") (json_field ∷ (codes "Content-Encoding", codes "gzip") ∷ []) (Length 4194305)
     ∷ posted by_default (codes "POST") (json_field ∷ []) (Length 4194305) ∷ []
-    ≡ Refused UnsupportedMediaType false ∷ Refused UnsupportedMediaType false ∷ Refused BodyTooLarge false ∷ []
+    ≡ Refused UnsupportedMediaType false ∷ Refused GzipIsOff false ∷ Refused BodyTooLarge false ∷ []
 unfolding json_field trim_ows
 beyond_the_limit = refl
 
@@ -165,20 +234,49 @@ identity_is_plain : is_plain ((codes "content-encoding", codes "Identity") ∷ [
 identity_is_plain = refl
 
 -- how fields frame a body: a length beyond the limit stands for the first one there
-framings : framing [] ∷ framing (length_field ∷ [])
-    ∷ framing ((codes "content-length", codes "0099999999") ∷ [])
-    ∷ framing ((codes "transfer-encoding", codes "Chunked") ∷ []) ∷ []
+framings : framing 4194304 [] ∷ framing 4194304 (length_field ∷ [])
+    ∷ framing 4194304 ((codes "content-length", codes "0099999999") ∷ [])
+    ∷ framing 4194304 ((codes "transfer-encoding", codes "Chunked") ∷ []) ∷ []
     ≡ Some (Length 0) ∷ Some (Length 7) ∷ Some (Length 4194305) ∷ Some Chunked ∷ []
 unfolding length_field
 framings = refl
 
-no_framings : framing (length_field ∷ length_field ∷ [])
-    ∷ framing (length_field ∷ (codes "Transfer-Encoding", codes "chunked") ∷ [])
-    ∷ framing ((codes "Content-Length", codes "+7") ∷ []) ∷ framing ((codes "Content-Length", []) ∷ [])
-    ∷ framing ((codes "Transfer-Encoding", codes "gzip") ∷ []) ∷ []
+no_framings : framing 4194304 (length_field ∷ length_field ∷ [])
+    ∷ framing 4194304 (length_field ∷ (codes "Transfer-Encoding", codes "chunked") ∷ [])
+    ∷ framing 4194304 ((codes "Content-Length", codes "+7") ∷ []) ∷ framing 4194304 ((codes "Content-Length", []) ∷ [])
+    ∷ framing 4194304 ((codes "Transfer-Encoding", codes "gzip") ∷ []) ∷ []
     ≡ None ∷ None ∷ None ∷ None ∷ None ∷ []
 unfolding length_field
 no_framings = refl
+
+-- where 3 bytes of at most 7 have come in chunks: a chunk of 4 is the last that fits
+chunk_at_the_limit : BySize 7 3 4 (codes "abcd") waits
+chunk_at_the_limit = record { last = λ z. absurd (omega (arith, z)); large = λ p q. absurd (omega (arith, q)); cut = λ p q. record { short = λ lt. absurd (omega (arith, lt)); long = λ le. (refl, refl) } }
+
+chunk_beyond_the_limit : BySize 7 3 5 (codes "abcde") (refuses BodyTooLarge)
+chunk_beyond_the_limit = record { last = λ z. absurd (omega (arith, z)); large = λ p q. refl; cut = λ p q. absurd (omega (arith, q)) }
+
+-- by another limit: 21 MiB less a byte, above 20 MiB; and the limit itself
+framings_by_limit : framing 20971520 ((codes "Content-Length", codes "22020095") ∷ [])
+    ∷ framing 20971520 ((codes "Content-Length", codes "20971520") ∷ [])
+    ∷ framing 7 ((codes "Content-Length", codes "9") ∷ []) ∷ []
+    ≡ Some (Length 20971521) ∷ Some (Length 20971520) ∷ Some (Length 8) ∷ []
+framings_by_limit = refl
+
+-- a request whose head says so many bytes, by what is allowed
+verdict_of_length : Allowed → List ℕ → HeadVerdict
+verdict_of_length allowed digits = verdict_by allowed (codes "POST") (codes "/v1/traces") 1
+    (host_field ∷ json_field ∷ (codes "Content-Length", digits) ∷ [])
+
+by_limit : verdict_of_length with_large (codes "20971520") ∷ verdict_of_length with_large (codes "20971521")
+    ∷ verdict_of_length with_small (codes "7") ∷ verdict_of_length with_small (codes "8")
+    ∷ verdict_of_length by_default (codes "20971520") ∷ []
+    ≡ Posted (record { framing = Length 20971520; expects_continue = false; is_packed = false; says_close = false })
+    ∷ Refused BodyTooLarge false
+    ∷ Posted (record { framing = Length 7; expects_continue = false; is_packed = false; says_close = false })
+    ∷ Refused BodyTooLarge false ∷ Refused BodyTooLarge false ∷ []
+unfolding verdict_of_length host_field json_field trim_ows
+by_limit = refl
 
 -- content codings, where gzip is taken: `gzip` or `x-gzip` alone, beside `identity` or without it
 gzip_field : Header
@@ -205,6 +303,17 @@ takings : is_taken with_gzip (gzip_field ∷ []) ∷ is_taken by_default (gzip_f
 unfolding gzip_field coded
 takings = refl
 
+-- why a coding isn't taken: gzip where it is off, and any other; another type goes before a coding
+refused_codings : posted by_default (codes "POST") (json_field ∷ coded (codes "x-gzip") ∷ []) (Length 5)
+    ∷ posted by_default (codes "POST") (json_field ∷ coded (codes "zstd") ∷ []) (Length 5)
+    ∷ posted with_gzip (codes "POST") (json_field ∷ coded (codes "zstd") ∷ []) (Length 5)
+    ∷ posted with_gzip (codes "POST") (json_field ∷ gzip_field ∷ gzip_field ∷ []) (Length 5)
+    ∷ posted by_default (codes "POST") (coded (codes "gzip") ∷ []) (Length 5) ∷ []
+    ≡ Refused GzipIsOff false ∷ Refused UnsupportedCoding false ∷ Refused UnsupportedCoding false ∷ Refused UnsupportedCoding false
+    ∷ Refused UnsupportedMediaType false ∷ []
+unfolding json_field gzip_field coded trim_ows
+refused_codings = refl
+
 gzip_taken : posted with_gzip (codes "POST")
     (json_field ∷ coded (codes "x-gzip") ∷ (codes "Expect", codes "100-continue") ∷ []) (Length 21)
     ≡ Posted (record { framing = Length 21; expects_continue = true; is_packed = true; says_close = false })
@@ -216,6 +325,6 @@ unfolding json_field gzip_field trim_ows
 gzip_beyond_the_limit = refl
 
 deflate_beyond_the_limit : posted with_gzip (codes "POST") (json_field ∷ coded (codes "deflate") ∷ []) (Length 4194305)
-    ≡ Refused UnsupportedMediaType false
+    ≡ Refused UnsupportedCoding false
 unfolding json_field coded trim_ows
 deflate_beyond_the_limit = refl

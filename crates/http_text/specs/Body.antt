@@ -3,7 +3,7 @@ use Rattle.std.specs.Prelude.{◌≡◌, ℕ, ◌+◌, ◌<◌, ◌≤◌, ◌�
 use Rattle.httparse.specs.Ascii.{line_feed, carriage_return, crlf_bytes}
 use Rattle.httparse.specs.Grammar.{LineEnd, Field, ChunkLine, ReadsChunkLine, chunk_size, ReadsSection}
 use Rattle.http_text.specs.Lines.{Cut, Whole, Waits, TooLong}
-use Rattle.http_text.specs.declared.request.TheConstants.{BODY_LIMIT, FIELD_LIMIT}
+use Rattle.http_text.specs.declared.request.TheConstants.{FIELD_LIMIT}
 use Rattle.http_text.specs.declared.request.Framing.{Framing}
 use Rattle.http_text.specs.declared.request.Framing.TheVariants.{Length, Chunked}
 use Rattle.http_text.specs.declared.request.RequestRefusal.{RequestRefusal}
@@ -65,36 +65,36 @@ pub record IsCutChunk (size : ℕ) (bytes : List ℕ) (f : FoundBody) : Type 0 w
   pub long : size ≤ length bytes → (begins_crlf (drop size bytes) ≡ false) × (f ≡ behind_data (drop size bytes))
 
 -- a line of size 0 is the last; the others add up
-pub record BySize (total size : ℕ) (bytes : List ℕ) (f : FoundBody) : Type 0 where
+pub record BySize (limit total size : ℕ) (bytes : List ℕ) (f : FoundBody) : Type 0 where
   pub last : size ≡ 0 → AtTrailerBy (cut trailer_len bytes) bytes f
-  pub large : 0 < size → BODY_LIMIT < total + size → f ≡ refuses BodyTooLarge
-  pub cut : 0 < size → total + size ≤ BODY_LIMIT → IsCutChunk size bytes f
+  pub large : 0 < size → limit < total + size → f ≡ refuses BodyTooLarge
+  pub cut : 0 < size → total + size ≤ limit → IsCutChunk size bytes f
 
 -- where the chunks stop that have come whole, `total` bytes
-abbrev pub StopsBy : Cut → ℕ → List ℕ → FoundBody → Type 0
-StopsBy Waits total bytes f = f ≡ waits
-StopsBy TooLong total bytes f = f ≡ refuses BadRequest
-StopsBy (Whole n) total bytes f =
-    ((size : ℕ) × GivesSize (take n bytes) size × BySize total size (drop n bytes) f)
+abbrev pub StopsBy : (limit : ℕ) → Cut → ℕ → List ℕ → FoundBody → Type 0
+StopsBy limit Waits total bytes f = f ≡ waits
+StopsBy limit TooLong total bytes f = f ≡ refuses BadRequest
+StopsBy limit (Whole n) total bytes f =
+    ((size : ℕ) × GivesSize (take n bytes) size × BySize limit total size (drop n bytes) f)
     ⊎ (GivesNoSize (take n bytes) × (f ≡ refuses BadRequest))
 
 abbrev pub content : List (List ℕ) → List ℕ
 content pieces = flat_map (λ (piece : List ℕ). piece) pieces
 
 -- chunked-body = *chunk last-chunk trailer-section CRLF
-pub record ChunkedBody (bytes : List ℕ) (f : FoundBody) : Type 0 where
+pub record ChunkedBody (limit : ℕ) (bytes : List ℕ) (f : FoundBody) : Type 0 where
   pub pieces : List (List ℕ)
   pub after : List ℕ
   pub chunks : Chunks bytes pieces after
-  pub within : length (content pieces) ≤ BODY_LIMIT
+  pub within : length (content pieces) ≤ limit
   pub end : FoundBody
-  pub stops : StopsBy (cut line_len after) (length (content pieces)) after end
+  pub stops : StopsBy limit (cut line_len after) (length (content pieces)) after end
   pub is : f ≡ with_front (content pieces) end
 
 abbrev pub sized_body : ℕ → List ℕ → FoundBody
 sized_body len bytes = if nat_le len (length bytes) then found (take len bytes) (drop len bytes) else waits
 
--- what stands behind a head with this framing
-abbrev pub BodyIs : Framing → List ℕ → FoundBody → Type 0
-BodyIs (Length len) bytes f = f ≡ sized_body len bytes
-BodyIs Chunked bytes f = ChunkedBody bytes f
+-- what stands behind a head with this framing, where a body may have so many bytes
+abbrev pub BodyIs : (limit : ℕ) → Framing → List ℕ → FoundBody → Type 0
+BodyIs limit (Length len) bytes f = f ≡ sized_body len bytes
+BodyIs limit Chunked bytes f = ChunkedBody limit bytes f

@@ -1,5 +1,5 @@
 -- What the fields of a head say (RFC 9110, section 5; RFC 9112, section 6), from the list of names and values.
-use Rattle.std.specs.Prelude.{ℕ, suc, min, Bool, false, not, ◌&&◌, ◌||◌, List, [], ◌∷◌, map, length, Option, Some, None, if◌then◌else◌, nat_lt, ◌==◌, codes, filter}
+use Rattle.std.specs.Prelude.{ℕ, suc, min, Bool, false, not, take, drop, ◌&&◌, ◌||◌, List, [], ◌∷◌, map, length, Option, Some, None, if◌then◌else◌, nat_lt, ◌==◌, codes, filter}
 use Rattle.std.specs.List.{list_all, list_any, before_first}
 use Rattle.std.specs.Char.{is_ascii_digit}
 use Rattle.std.specs.Str.Parse.{digits_value}
@@ -7,7 +7,6 @@ use Rattle.std.specs.Str.{str_eq_ignore_ascii_case}
 use Rattle.httparse.specs.Ascii.{comma, semicolon}
 use Rattle.httparse.specs.Grammar.{trim_ows}
 use Rattle.http_text.specs.declared.allowed.Allowed.{Allowed}
-use Rattle.http_text.specs.declared.request.TheConstants.{BODY_LIMIT}
 use Rattle.http_text.specs.declared.request.Framing.{Framing}
 use Rattle.http_text.specs.declared.request.Framing.TheVariants.{Length, Chunked}
 
@@ -25,15 +24,15 @@ is_number text = nat_lt 0 (length text) && list_all is_ascii_digit text
 
 -- a length above the limit is refused, so it is taken for the next number above the limit
 -- the framing by the values of `Content-Length` and of `Transfer-Encoding`
-abbrev pub framing_by : List (List ℕ) → List (List ℕ) → Option Framing
-framing_by [] [] = Some (Length 0)
-framing_by (text ∷ []) [] = if is_number text then Some (Length (min (digits_value 10 text) (suc BODY_LIMIT))) else None
-framing_by [] (coding ∷ []) = if str_eq_ignore_ascii_case coding (codes "chunked") then Some Chunked else None
-framing_by _ _ = None
+abbrev pub framing_by : (limit : ℕ) → List (List ℕ) → List (List ℕ) → Option Framing
+framing_by limit [] [] = Some (Length 0)
+framing_by limit (text ∷ []) [] = if is_number text then Some (Length (min (digits_value 10 text) (suc limit))) else None
+framing_by limit [] (coding ∷ []) = if str_eq_ignore_ascii_case coding (codes "chunked") then Some Chunked else None
+framing_by limit _ _ = None
 
 -- how the body is framed, or None where the fields don't say it in one way
-abbrev pub framing : List Header → Option Framing
-framing headers = framing_by (values_named (codes "content-length") headers) (values_named (codes "transfer-encoding") headers)
+abbrev pub framing : (limit : ℕ) → List Header → Option Framing
+framing limit headers = framing_by limit (values_named (codes "content-length") headers) (values_named (codes "transfer-encoding") headers)
 
 -- the one value, if there is exactly one
 abbrev pub only : List (List ℕ) → Option (List ℕ)
@@ -80,6 +79,41 @@ is_packed headers = is_gzip_by (only (codings headers))
 -- a coding that is taken: none, or gzip where it is taken
 abbrev pub is_taken : Allowed → List Header → Bool
 is_taken allowed headers = is_plain headers || (allowed.gzip && is_packed headers)
+
+-- the name or the address of a `Host`, before any port
+abbrev pub host_name : List ℕ → List ℕ
+host_name host = before_first (λ b. b == 58) host
+
+-- an address literal of version 6, in brackets (RFC 3986, section 3.2.2)
+abbrev pub is_bracketed : List ℕ → Bool
+is_bracketed [] = false
+is_bracketed (b ∷ bytes) = b == 91
+
+-- a host that no site of the internet can have: an address literal, or a name without a dot
+abbrev pub is_own_host : List ℕ → Bool
+is_own_host host =
+    is_bracketed host || (not (list_any (λ b. b == 46) (host_name host)) || list_all (λ b. is_ascii_digit b || (b == 46)) (host_name host))
+
+-- an `Origin` of this host (RFC 6454, section 6.2)
+abbrev pub is_own_origin : (host value : List ℕ) → Bool
+is_own_origin host value = str_eq_ignore_ascii_case (take 7 value) (codes "http://") && str_eq_ignore_ascii_case (drop 7 value) host
+
+-- `Sec-Fetch-Site` says that a page of the same origin sent the request, or the user
+abbrev pub is_own_site : List ℕ → Bool
+is_own_site value = str_eq_ignore_ascii_case value (codes "same-origin") || str_eq_ignore_ascii_case value (codes "none")
+
+-- the field says that a page of another site sent the request
+abbrev pub is_foreign_field : (host : List ℕ) → Header → Bool
+is_foreign_field host h =
+    has (codes "origin") (λ value. not (is_own_origin host value)) h || has (codes "sec-fetch-site") (λ value. not (is_own_site value)) h
+
+abbrev pub is_foreign_by : Option (List ℕ) → List Header → Bool
+is_foreign_by None headers = false
+is_foreign_by (Some host) headers = not (is_own_host host) || list_any (is_foreign_field host) headers
+
+-- a page of another site may have sent the request: it is asked of a name that such a site can have, or a field says so
+abbrev pub is_foreign : List Header → Bool
+is_foreign headers = is_foreign_by (only (values_named (codes "host") headers)) headers
 
 -- the words of a comma list, where a word is trimmed
 abbrev pub cons_first : ℕ → List (List ℕ) → List (List ℕ)

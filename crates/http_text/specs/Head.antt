@@ -5,14 +5,14 @@ use Rattle.httparse.specs.Grammar.{RequestHead, ReadsRequest}
 use Rattle.httparse.specs.Spans.{name_and_value}
 use Rattle.http_text.specs.declared.allowed.Allowed.{Allowed}
 use Rattle.http_text.specs.Lines.{Cut, Whole, Waits, TooLong}
-use Rattle.http_text.specs.declared.request.TheConstants.{BODY_LIMIT, FIELD_LIMIT}
+use Rattle.http_text.specs.declared.request.TheConstants.{FIELD_LIMIT}
 use Rattle.http_text.specs.declared.request.Framing.{Framing}
 use Rattle.http_text.specs.declared.request.Framing.TheVariants.{Length, Chunked}
 use Rattle.http_text.specs.declared.request.RequestRefusal.{RequestRefusal}
-use Rattle.http_text.specs.declared.request.RequestRefusal.TheVariants.{HeadTooLarge, BadRequest, NotFound, MethodNotAllowed, UnsupportedMediaType, BodyTooLarge}
+use Rattle.http_text.specs.declared.request.RequestRefusal.TheVariants.{HeadTooLarge, BadRequest, NotFound, MethodNotAllowed, Forbidden, UnsupportedMediaType, GzipIsOff, UnsupportedCoding, BodyTooLarge}
 use Rattle.http_text.specs.declared.request.HeadVerdict.{HeadVerdict}
 use Rattle.http_text.specs.declared.request.HeadVerdict.TheVariants.{Refused, Close, Post as Posted}
-use Rattle.http_text.specs.Fields.{Header, values_named, framing, is_json, is_packed, is_taken, says_close, expects_continue}
+use Rattle.http_text.specs.Fields.{Header, values_named, framing, is_json, is_packed, is_taken, says_close, expects_continue, is_foreign}
 use Rattle.http_text.specs.Lines.{head_len, blank_len, cut}
 
 -- the fields of a head's text: the lines between the request line and the empty line at the end
@@ -26,25 +26,34 @@ abbrev pub refused : List ℕ → RequestRefusal → HeadVerdict
 refused method refusal = Refused refusal (bytes_eq method (codes "HEAD"))
 
 -- a length within the limit; chunks are added up as they come
-abbrev pub fits : Framing → Bool
-fits (Length n) = nat_le n BODY_LIMIT
-fits Chunked = true
+abbrev pub fits : (limit : ℕ) → Framing → Bool
+fits limit (Length n) = nat_le n limit
+fits limit Chunked = true
+
+-- why a coding isn't taken
+abbrev pub coding_refusal : (is_packed : Bool) → RequestRefusal
+coding_refusal is_packed = if is_packed then GzipIsOff else UnsupportedCoding
 
 -- a request for the traces, by its fields
 abbrev pub posted : Allowed → List ℕ → List Header → Framing → HeadVerdict
 posted allowed method headers framed =
-    if not (is_json headers && is_taken allowed headers) then refused method UnsupportedMediaType
-    else (if not (fits framed) then refused method BodyTooLarge
-    else Posted (record { framing = framed; expects_continue = expects_continue headers; is_packed = is_packed headers; says_close = says_close headers }))
+    if not (is_json headers) then refused method UnsupportedMediaType
+    else (if not (is_taken allowed headers) then refused method (coding_refusal (is_packed headers))
+    else (if not (fits allowed.body_limit framed) then refused method BodyTooLarge
+    else Posted (record { framing = framed; expects_continue = expects_continue headers; is_packed = is_packed headers; says_close = says_close headers })))
 
 -- the target at which the collector is closed, where that is allowed
 abbrev pub is_close : Allowed → List ℕ → Bool
 is_close allowed target = allowed.close && bytes_eq target (codes "/close")
 
+-- a request to close, by its fields
+abbrev pub closing : List ℕ → List Header → HeadVerdict
+closing method headers = if is_foreign headers then refused method Forbidden else Close
+
 -- where a message that is framed goes, by its target
 abbrev pub routed : Allowed → List ℕ → List ℕ → List Header → Framing → HeadVerdict
 routed allowed method target headers framed =
-    if is_close allowed target && is_post method then Close
+    if is_close allowed target && is_post method then closing method headers
     else (if not (is_close allowed target || bytes_eq target (codes "/v1/traces")) then refused method NotFound
     else (if not (is_post method) then refused method MethodNotAllowed
     else posted allowed method headers framed))
@@ -57,7 +66,7 @@ framed_or_bad allowed method target headers (Some framed) = routed allowed metho
 abbrev pub verdict_by : Allowed → List ℕ → List ℕ → ℕ → List Header → HeadVerdict
 verdict_by allowed method target minor headers =
     if (minor == 1) && (length (values_named (codes "host") headers) == 1)
-    then framed_or_bad allowed method target headers (framing headers)
+    then framed_or_bad allowed method target headers (framing allowed.body_limit headers)
     else refused method BadRequest
 
 abbrev pub verdict : Allowed → RequestHead → HeadVerdict

@@ -7,4 +7,6 @@ pub struct Allowed {
     pub gzip: bool,
     /// `POST /close` closes the collector; else there is no such target.
     pub close: bool,
+    /// A body may have so many bytes, as it comes and unpacked.
+    pub body_limit: u32,
 }

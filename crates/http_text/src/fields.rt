@@ -1,17 +1,18 @@
 //! What the fields of a head say (RFC 9110, section 5; RFC 9112, section 6). Names and words are compared without
 //! regard to ASCII case.
-ghost use Rattle.std.specs.Prelude.{◌≡◌, ℕ, ◌+◌, ◌<◌, ◌≤◌, ◌==◌, List, [], length, map, All, IfSome, IfNone, codes, is_some, option_copied, Some, None, if◌then◌else◌, nat_le, nat_lt, Option, IsTrue, reverse, ◌^◌, min, suc, position, not};
-ghost use Rattle.std.specs.List.{before_first};
+ghost use Rattle.std.specs.Prelude.{◌≡◌, ℕ, ◌+◌, ◌<◌, ◌≤◌, ◌==◌, List, [], length, map, All, IfSome, IfNone, codes, is_some, option_copied, Some, None, if◌then◌else◌, nat_le, nat_lt, Option, IsTrue, reverse, ◌^◌, min, suc, position, not, ◌&&◌, ◌||◌};
+ghost use Rattle.std.specs.List.{before_first, list_any, list_all};
+ghost use Rattle.std.specs.Char.{is_ascii_digit};
 ghost use Rattle.std.specs.Str.{str_eq_ignore_ascii_case};
 ghost use Rattle.std.specs.Str.Parse.{digits_value};
 ghost use Rattle.httparse.specs.Ascii.{comma, semicolon};
 ghost use Rattle.httparse.specs.Grammar.{skip_ows, trim_ows};
 ghost use Rattle.httparse.specs.Spans.{IsHeaderWithin, header_bytes};
-ghost use Rattle.http_text.specs.Fields.{values_named, is_number, framing, media_type, is_json, is_plain, codings, is_gzip, is_packed, is_taken, has, has_word, says_close, expects_continue};
+ghost use Rattle.http_text.specs.Fields.{values_named, is_number, framing, media_type, is_json, is_plain, codings, is_gzip, is_packed, is_taken, has, has_word, says_close, expects_continue, host_name, is_bracketed, is_own_host, is_own_origin, is_own_site, is_foreign_field, is_foreign};
 ghost use Rattle.http_text.specs.Named.{Seen};
 
 use crate::allowed::Allowed;
-use crate::request::{BODY_LIMIT, Framing};
+use crate::request::Framing;
 use httparse::is_space_or_tab;
 use httparse::spans::HeaderSpan;
 
@@ -51,8 +52,8 @@ pub fn find_named<'b>(text: &'b [u8], spans: &[HeaderSpan], name: &[u8]) -> Name
 }
 
 /// The length that the text gives, where one above the limit stands for all above it.
-fn body_len(text: &[u8]) -> Option<Framing>
-    ensures { result ≡ (if is_number text.now then Some (Framing.Length (min (digits_value 10 text.now) (suc BODY_LIMIT))) else None) }
+fn body_len(limit: u32, text: &[u8]) -> Option<Framing>
+    ensures { result ≡ (if is_number text.now then Some (Framing.Length (min (digits_value 10 text.now) (suc limit))) else None) }
 {
     if text.is_empty() {
         return None;
@@ -62,7 +63,7 @@ fn body_len(text: &[u8]) -> Option<Framing>
         if !digit.is_ascii_digit() {
             return None;
         }
-        len = (len * 10 + (*digit - b'0') as usize).min(BODY_LIMIT + 1);
+        len = (len * 10 + (*digit - b'0') as usize).min(limit as usize + 1);
     }
     Some(Framing::Length(len))
 }
@@ -190,6 +191,100 @@ pub fn is_taken(allowed: Allowed, text: &[u8], spans: &[HeaderSpan]) -> bool
     is_plain(text, spans) || (allowed.gzip && is_packed(text, spans))
 }
 
+/// The place of the first `:`.
+fn colon_at(host: &[u8]) -> Option<usize>
+    ensures value { result ≡ position (λ b. b == 58) host.now }
+    ensures within { IfSome result (λ at. at < length host.now) }
+{
+    host.iter().position(|b| *b == b':')
+}
+
+/// The name or the address of a `Host`, before any port.
+fn host_name(host: &[u8]) -> &[u8]
+    ensures { result.now ≡ host_name host.now }
+{
+    match colon_at(host) {
+        Some(at) => &host[..at],
+        None => host,
+    }
+}
+
+/// An address literal of version 6, in brackets.
+fn is_bracketed(host: &[u8]) -> bool
+    ensures { result ≡ is_bracketed host.now }
+{
+    matches!(host, [b'[', ..])
+}
+
+/// The text has a dot.
+fn has_dot(text: &[u8]) -> bool
+    ensures { result ≡ list_any (λ b. b == 46) text.now }
+{
+    text.iter().any(|b| *b == b'.')
+}
+
+/// The text is digits and dots alone.
+fn is_dotted(text: &[u8]) -> bool
+    ensures { result ≡ list_all (λ b. is_ascii_digit b || (b == 46)) text.now }
+{
+    text.iter().all(|b| b.is_ascii_digit() || *b == b'.')
+}
+
+/// A host that no site of the internet can have: an address literal, or a name without a dot.
+fn is_own_host(host: &[u8]) -> bool
+    ensures { result ≡ is_own_host host.now }
+{
+    let name = host_name(host);
+    is_bracketed(host) || !has_dot(name) || is_dotted(name)
+}
+
+/// An `Origin` of this host (RFC 6454, section 6.2).
+fn is_own_origin(host: &[u8], value: &[u8]) -> bool
+    ensures { result ≡ is_own_origin host.now value.now }
+{
+    let at = value.len().min(7);
+    eq_ignore_case(&value[..at], b"http://") && eq_ignore_case(&value[at..], host)
+}
+
+/// `Sec-Fetch-Site` says that a page of the same origin sent the request, or the user.
+fn is_own_site(value: &[u8]) -> bool
+    ensures { result ≡ is_own_site value.now }
+{
+    eq_ignore_case(value, b"same-origin") || eq_ignore_case(value, b"none")
+}
+
+/// The field says that a page of another site sent the request.
+fn is_foreign_field(host: &[u8], name: &[u8], value: &[u8]) -> bool
+    ensures { result ≡ is_foreign_field host.now (name.now, value.now) }
+{
+    (eq_ignore_case(name, b"origin") && !is_own_origin(host, value))
+        || (eq_ignore_case(name, b"sec-fetch-site") && !is_own_site(value))
+}
+
+/// A field says that a page of another site sent the request.
+fn has_foreign_field(host: &[u8], text: &[u8], spans: &[HeaderSpan]) -> bool
+    requires { All (IsHeaderWithin (length text.now)) spans.now }
+    ensures { result ≡ list_any (is_foreign_field host.now) (map (header_bytes text.now) spans.now) }
+{
+    let mut is_foreign = false;
+    for span in spans {
+        is_foreign |= is_foreign_field(host, span.name.of(text), span.value.of(text));
+    }
+    is_foreign
+}
+
+/// Whether a page of another site may have sent the request: it is asked of a name that such a site can have, or a field
+/// says so.
+pub fn is_foreign(text: &[u8], spans: &[HeaderSpan]) -> bool
+    requires { All (IsHeaderWithin (length text.now)) spans.now }
+    ensures { result ≡ is_foreign (map (header_bytes text.now) spans.now) }
+{
+    match find_named(text, spans, b"host") {
+        NamedFields::One(host) => !is_own_host(host) || has_foreign_field(host, text, spans),
+        _ => false,
+    }
+}
+
 /// `Expect` says `100-continue`.
 pub fn expects_continue(text: &[u8], spans: &[HeaderSpan]) -> bool
     requires { All (IsHeaderWithin (length text.now)) spans.now }
@@ -244,17 +339,17 @@ pub fn says_close(text: &[u8], spans: &[HeaderSpan]) -> bool
     says
 }
 
-/// How the body is framed.
-pub fn framing(text: &[u8], spans: &[HeaderSpan]) -> Option<Framing>
+/// How the body is framed, which may have so many bytes.
+pub fn framing(limit: u32, text: &[u8], spans: &[HeaderSpan]) -> Option<Framing>
     requires { All (IsHeaderWithin (length text.now)) spans.now }
-    ensures { result ≡ framing (map (header_bytes text.now) spans.now) }
+    ensures { result ≡ framing limit (map (header_bytes text.now) spans.now) }
 {
     match (
         find_named(text, spans, b"content-length"),
         find_named(text, spans, b"transfer-encoding"),
     ) {
         (NamedFields::Absent, NamedFields::Absent) => Some(Framing::Length(0)),
-        (NamedFields::One(len), NamedFields::Absent) => body_len(len),
+        (NamedFields::One(len), NamedFields::Absent) => body_len(limit, len),
         (NamedFields::Absent, NamedFields::One(coding)) if eq_ignore_case(coding, b"chunked") => {
             Some(Framing::Chunked)
         }

@@ -4,15 +4,16 @@ ghost use Rattle.httparse.specs.Ascii.{line_feed};
 ghost use Rattle.httparse.specs.Grammar.{RequestHead};
 ghost use Rattle.httparse.specs.Spans.{IsHeaderWithin, IsRequestWithin, header_bytes};
 ghost use Rattle.http_text.specs.Lines.{blank_len};
-ghost use Rattle.http_text.specs.Head.{IsHead, IsVerdict, field_lines, verdict_by, refused, routed, posted};
+ghost use Rattle.http_text.specs.Head.{IsHead, IsVerdict, field_lines, verdict_by, refused, routed, posted, coding_refusal, closing};
 ghost use Rattle.http_text.specs.Spans.{IsHeadAt};
 
 use crate::allowed::Allowed;
 use crate::fields::{
-    NamedFields, expects_continue, find_named, framing, is_json, is_packed, is_taken, says_close,
+    NamedFields, expects_continue, find_named, framing, is_foreign, is_json, is_packed, is_taken,
+    says_close,
 };
 use crate::lines::blank_len;
-use crate::request::{BODY_LIMIT, FIELD_LIMIT, Framing, HeadVerdict, Post, RequestRefusal};
+use crate::request::{FIELD_LIMIT, Framing, HeadVerdict, Post, RequestRefusal};
 use httparse::Status;
 use httparse::spans::{EMPTY_HEADER_SPAN, HeaderSpan, RequestSpans, parse_request};
 
@@ -95,7 +96,7 @@ fn verdict_by(
     if minor != 1 || !matches!(find_named(text, headers, b"host"), NamedFields::One(_)) {
         return refused(method, RequestRefusal::BadRequest);
     }
-    match framing(text, headers) {
+    match framing(allowed.body_limit, text, headers) {
         None => refused(method, RequestRefusal::BadRequest),
         Some(framed) => routed(allowed, method, target, text, headers, framed),
     }
@@ -116,7 +117,7 @@ fn routed(
     let is_post = method == b"POST".as_slice();
     let is_close = allowed.close && target == b"/close".as_slice();
     if is_close && is_post {
-        return HeadVerdict::Close;
+        return closing(method, text, headers);
     }
     if !(is_close || target == b"/v1/traces".as_slice()) {
         return refused(method, RequestRefusal::NotFound);
@@ -125,6 +126,28 @@ fn routed(
         return refused(method, RequestRefusal::MethodNotAllowed);
     }
     posted(allowed, method, text, headers, framed)
+}
+
+/// What a request to close comes to, by its fields.
+fn closing(method: &[u8], text: &[u8], headers: &[HeaderSpan]) -> HeadVerdict
+    requires { All (IsHeaderWithin (length text.now)) headers.now }
+    ensures { result ≡ closing method.now (map (header_bytes text.now) headers.now) }
+{
+    if is_foreign(text, headers) {
+        return refused(method, RequestRefusal::Forbidden);
+    }
+    HeadVerdict::Close
+}
+
+/// Why a coding isn't taken.
+fn coding_refusal(is_packed: bool) -> RequestRefusal
+    ensures { result ≡ coding_refusal is_packed }
+{
+    if is_packed {
+        RequestRefusal::GzipIsOff
+    } else {
+        RequestRefusal::UnsupportedCoding
+    }
 }
 
 /// What a request for traces comes to, by its other fields.
@@ -138,10 +161,13 @@ fn posted(
     requires { All (IsHeaderWithin (length text.now)) headers.now }
     ensures { result ≡ posted allowed method.now (map (header_bytes text.now) headers.now) framed }
 {
-    if !(is_json(text, headers) && is_taken(allowed, text, headers)) {
+    if !is_json(text, headers) {
         return refused(method, RequestRefusal::UnsupportedMediaType);
     }
-    if matches!(framed, Framing::Length(len) if len > BODY_LIMIT) {
+    if !is_taken(allowed, text, headers) {
+        return refused(method, coding_refusal(is_packed(text, headers)));
+    }
+    if matches!(framed, Framing::Length(len) if len > allowed.body_limit as usize) {
         return refused(method, RequestRefusal::BodyTooLarge);
     }
     HeadVerdict::Post(Post {

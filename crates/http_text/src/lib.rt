@@ -4,7 +4,7 @@
 //! `specs/Head` and `specs/Fields`. Nothing here reads or writes: `http_lane` does.
 //!
 //! ```
-//! let allowed = Allowed { gzip: true, close: false };
+//! let allowed = Allowed { gzip: true, close: false, body_limit: 4_194_304 };
 //! match cut_on(stream, search) {
 //!     Cutting::Whole(length) => match judge(&stream[..length], allowed) {
 //!         HeadVerdict::Post(post) => read_body(post.framing),
@@ -27,7 +27,8 @@ mod search;
 
 pub use allowed::Allowed;
 pub use body::{is_trailer, read_size};
+pub use fields::is_foreign;
 pub use head::{judge, read_head};
 pub use lines::PART_LIMIT;
-pub use request::{BODY_LIMIT, FIELD_LIMIT, Framing, HeadVerdict, Post, RequestRefusal};
+pub use request::{FIELD_LIMIT, Framing, HeadVerdict, Post, RequestRefusal};
 pub use search::{Cutting, PartSearch, SearchPlace, cut_on};

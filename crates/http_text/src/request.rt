@@ -2,9 +2,6 @@
 use std::error::Error;
 use std::fmt;
 
-/// A body may have so many bytes.
-pub const BODY_LIMIT: usize = 4_194_304;
-
 /// A head or a trailer may have so many fields.
 pub const FIELD_LIMIT: usize = 64;
 
@@ -19,9 +16,15 @@ pub enum RequestRefusal {
     NotFound,
     /// 405: not `POST`.
     MethodNotAllowed,
-    /// 415: no `application/json`, or a coding of it that isn't taken.
+    /// 403: a request to close that a page of another site may have sent.
+    Forbidden,
+    /// 415: no `application/json`.
     UnsupportedMediaType,
-    /// 413: a body above [`BODY_LIMIT`], as it comes or unpacked.
+    /// 415: packed by gzip, which isn't taken.
+    GzipIsOff,
+    /// 415: another coding of the content.
+    UnsupportedCoding,
+    /// 413: a body above the limit, as it comes or unpacked.
     BodyTooLarge,
     /// 400: a body that says to be gzip, and isn't (RFC 1952).
     NotGzip,
@@ -39,9 +42,12 @@ impl fmt::Display for RequestRefusal {
             RequestRefusal::BadRequest => f.write_str("the head is no request of HTTP/1.1"),
             RequestRefusal::NotFound => f.write_str("the target is unknown"),
             RequestRefusal::MethodNotAllowed => f.write_str("the method is not POST"),
-            RequestRefusal::UnsupportedMediaType => f.write_str(
-                "the content is no JSON, or has a coding that is not taken",
-            ),
+            RequestRefusal::Forbidden => f.write_str("the request may be of another site"),
+            RequestRefusal::UnsupportedMediaType => f.write_str("the content is no JSON"),
+            RequestRefusal::GzipIsOff => f.write_str("the content is gzip, which is off"),
+            RequestRefusal::UnsupportedCoding => {
+                f.write_str("the content has a coding that is not taken")
+            }
             RequestRefusal::BodyTooLarge => f.write_str("the body is too large"),
             RequestRefusal::NotGzip => f.write_str("the body is no gzip stream"),
         }

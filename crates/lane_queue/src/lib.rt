@@ -37,7 +37,7 @@ mod sender_port;
 pub use brake::Brake;
 pub use ends::Sender;
 pub use gate::{Gate, GatePlace, OpenGate, ShardLoad};
-pub use law::{popped_then_held_is_pushed, pops_take_turns};
+pub use law::{none_is_overtaken, popped_then_held_is_pushed, pops_take_turns};
 pub use list_port::ListPort;
 pub use making::{QueueGrid, new_grid};
 pub use pause::Pause;

@@ -42,18 +42,18 @@ module _ {F J L : Type 0} (serves : ℕ → F → LaneAt → F → LaneAt → Bo
           ∙ (ap (λ (k : ℕ). record { number = number_of j; connected = k; ports = (lane_of j).ports; keeps_doubles = (lane_of j).keeps_doubles }) head.1
           ∙ ap (λ (keeps : Bool). record { number = number_of j; connected = 0; ports = (lane_of j).ports; keeps_doubles = keeps }) head.2)
 
-module _ {J L : Type 0} (s : Settings) (number_of : J → ℕ) (given_of : J → ShardIn) (settings_of : J → Settings) (out_of : L → ShardOut) (did : J → L → Type 0)
-    (tells : (j : J) (l : L) → did j l → ShardDid (number_of j) (settings_of j) (given_of j).seat (given_of j).receiver (given_of j).sender zeros (out_of l).seat (out_of l).receiver (out_of l).sender (out_of l).counted (out_of l).is_full) where
+module _ {J L : Type 0} (capacity : ℕ) (s : Settings) (number_of : J → ℕ) (given_of : J → ShardIn) (settings_of : J → Settings) (out_of : L → ShardOut) (did : J → L → Type 0)
+    (tells : (j : J) (l : L) → did j l → ShardDid capacity (number_of j) (settings_of j) (given_of j).seat (given_of j).receiver (given_of j).sender zeros (out_of l).seat (out_of l).receiver (out_of l).sender (out_of l).counted (out_of l).is_full) where
   abbrev pub IsNewShard : J → Type 0
   IsNewShard j = settings_of j ≡ s
 
-  pub shards_did : (number : ℕ) (jobs : List J) (lefts : List L) → NumberedFrom number (map number_of jobs) → All IsNewShard jobs → HaveDone did jobs lefts → ShardsDid s number (map given_of jobs) (map out_of lefts)
+  pub shards_did : (number : ℕ) (jobs : List J) (lefts : List L) → NumberedFrom number (map number_of jobs) → All IsNewShard jobs → HaveDone did jobs lefts → ShardsDid capacity s number (map given_of jobs) (map out_of lefts)
   shards_did number [] [] numbers new done = tt
   shards_did number [] (l ∷ lefts) numbers new done = absurd done
   shards_did number (j ∷ jobs) [] numbers new done = absurd done
   shards_did number (j ∷ jobs) (l ∷ lefts) numbers new done = (
-    subst (λ n. ShardDid n s given.seat given.receiver given.sender zeros out.seat out.receiver out.sender out.counted out.is_full) numbers.0
-        (subst (λ (z : Settings). ShardDid (number_of j) z given.seat given.receiver given.sender zeros out.seat out.receiver out.sender out.counted out.is_full) head (tells j l done.0)),
+    subst (λ n. ShardDid capacity n s given.seat given.receiver given.sender zeros out.seat out.receiver out.sender out.counted out.is_full) numbers.0
+        (subst (λ (z : Settings). ShardDid capacity (number_of j) z given.seat given.receiver given.sender zeros out.seat out.receiver out.sender out.counted out.is_full) head (tells j l done.0)),
     shards_did (number + 1) jobs lefts numbers.1 (All-tail IsNewShard j jobs new) done.1,
   )
     where

@@ -55,7 +55,7 @@ module _ {F T : Type 0} (serves : ℕ → F → LaneAt → F → LaneAt → Bool
     pub exporter_ends : length given.exporter.ends ≡ shards
     pub lanes_did : LanesDid serves keeps_doubles capacity 0 given.acceptors given.columns left.lanes
     pub ticker_did : TickerDid ticks_give lanes given.ticks given.ticker left.ticker
-    pub shards_did : ShardsDid s 0 given.shards left.shards
+    pub shards_did : ShardsDid capacity s 0 given.shards left.shards
     pub exporter_did : ExporterDid given.exporter given.shipments zeros left.exporter.exporter left.exporter.receiver left.exporter.counted left.exporter.is_full
 
   pub tied_left : Done → IsTiedGrid (senders_of left) (map (λ (x : ShardOut). x.receiver) left.shards)
@@ -64,13 +64,13 @@ module _ {F T : Type 0} (serves : ℕ → F → LaneAt → F → LaneAt → Bool
       ∙ (ap (λ (z : List (List TableId)). z ++ queues left.ticker ∷ []) (lanes_queues serves keeps_doubles capacity 0 given.acceptors given.columns left.lanes d.lanes_did)
       ∙ (ap (λ (z : List TableId). map (λ (column : List (EndState Item)). queues column) given.columns ++ z ∷ []) (ap queues d.ticker_did.ends ∙ ticks_queues d.ticker_did.moments lanes given.ticker)
       ∙ sym (map-append (λ (column : List (EndState Item)). queues column) given.columns (given.ticker ∷ [])))))
-      (shards_queues s 0 given.shards left.shards d.shards_did) d.ends.tied
+      (shards_queues capacity s 0 given.shards left.shards d.shards_did) d.ends.tied
 
   pub shipped_left : Done → AreTied (map (λ (x : ShardOut). x.sender) left.shards) left.exporter.receiver.ends
-  shipped_left d = shards_senders s 0 given.shards left.shards d.shards_did ∙ (d.ends.shipped ∙ sym d.exporter_did.same_queues)
+  shipped_left d = shards_senders capacity s 0 given.shards left.shards d.shards_did ∙ (d.ends.shipped ∙ sym d.exporter_did.same_queues)
 
   pub seats_left : NewSeatsAreOfOne → AskingKeepsCells → SameCellsSuffice → Done → AreOfOneBudget (map (λ (x : ShardOut). x.seat) left.shards)
-  seats_left new keeps same d = same (map (λ (x : ShardIn). x.seat) given.shards) (map (λ (x : ShardOut). x.seat) left.shards) (shards_cells keeps s 0 given.shards left.shards d.shards_did)
+  seats_left new keeps same d = same (map (λ (x : ShardIn). x.seat) given.shards) (map (λ (x : ShardOut). x.seat) left.shards) (shards_cells keeps capacity s 0 given.shards left.shards d.shards_did)
       (new nodes shards (map (λ (x : ShardIn). x.seat) given.shards) d.ends.new_seats)
 
   -- so many ends has the exporter

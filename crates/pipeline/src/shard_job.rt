@@ -50,7 +50,7 @@ impl<'s, QueueRoom: Room, ExportRoom: Room, Observer: Gate, Runtime: Wait + Cloc
 
     ghost ready = { λ job. IsReady job.shard job.receiver job.sender job.seat };
 
-    ghost did = { λ job left. ShardDid job.number (settings job.shard) job.seat job.receiver job.sender zeros
+    ghost did = { λ job left. ShardDid QueueRoom.capacity job.number (settings job.shard) job.seat job.receiver job.sender zeros
         left.seat left.receiver left.sender left.counts left.is_full };
 
     fn work(self) -> ShardLeft<'s, QueueRoom, ExportRoom, Runtime> {

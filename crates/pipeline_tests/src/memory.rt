@@ -71,6 +71,7 @@ impl Acceptor for MemoryAcceptor {
             allowed: Allowed {
                 gzip: false,
                 close: true,
+                body_limit: 4_194_304,
             },
         };
         Some((reads, Vec::new(self.alloc)))

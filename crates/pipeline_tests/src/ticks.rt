@@ -1,5 +1,5 @@
 //! When ticks are due.
-use collector_serve::{StopMark, Ticker, WallClock};
+use collector_serve::{SteadyClock, StopMark, Ticker};
 use http_lane::{Clock as Moments, HasStopMark};
 use lane_worker::Ticks;
 use std::alloc::{AllocError, Global};
@@ -12,7 +12,7 @@ use std::time::Clock;
 fn ticks_end(rt: HostRuntime) -> Result<(), Fail> {
     let stop = StopMark::new();
     stop.set();
-    let clock = WallClock::new(&rt);
+    let clock = SteadyClock::new(&rt);
     let mut ticker = Ticker::new(60_000, &clock, &stop);
     assert_eq!(rt; ticker.next(&rt), None);
     Ok(())
@@ -26,7 +26,7 @@ fn told<R: Wait + Clock>(
     ticks: usize,
 ) -> Result<Vec<u64>, AllocError> {
     let stop = StopMark::new();
-    let clock = WallClock::new(rt);
+    let clock = SteadyClock::new(rt);
     let mut ticker = Ticker::new(period, &clock, &stop);
     let mut moments = Vec::new(alloc);
     moments.push(clock.now())?;

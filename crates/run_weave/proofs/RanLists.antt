@@ -67,24 +67,24 @@ none_and n = omega arith
 
 -- ---- lists of threads, one by one
 
-pub shards_at : (s : Settings) (number : ℕ) (ins : List ShardIn) (outs : List ShardOut) → ShardsDid s number ins outs → (k : ℕ) (given : ShardIn) (out : ShardOut) → slice_get ins k ≡ Some given → slice_get outs k ≡ Some out
-    → ShardDid (number + k) s given.seat given.receiver given.sender zeros out.seat out.receiver out.sender out.counted out.is_full
-shards_at s number [] outs did k given out e f = absurd (cc e)
-shards_at s number (g ∷ ins) [] did k given out e f = absurd did
-shards_at s number (g ∷ ins) (o ∷ outs) did zero given out e f =
+pub shards_at : {capacity : ℕ} (s : Settings) (number : ℕ) (ins : List ShardIn) (outs : List ShardOut) → ShardsDid capacity s number ins outs → (k : ℕ) (given : ShardIn) (out : ShardOut) → slice_get ins k ≡ Some given → slice_get outs k ≡ Some out
+    → ShardDid capacity (number + k) s given.seat given.receiver given.sender zeros out.seat out.receiver out.sender out.counted out.is_full
+shards_at {capacity} s number [] outs did k given out e f = absurd (cc e)
+shards_at {capacity} s number (g ∷ ins) [] did k given out e f = absurd did
+shards_at {capacity} s number (g ∷ ins) (o ∷ outs) did zero given out e f =
     let same_given : g ≡ given = cc e in
     let same_out : o ≡ out = cc f in
-    subst (λ n. ShardDid n s given.seat given.receiver given.sender zeros out.seat out.receiver out.sender out.counted out.is_full) (omega arith)
-    (subst (λ (x : ShardIn). ShardDid number s x.seat x.receiver x.sender zeros out.seat out.receiver out.sender out.counted out.is_full) same_given
-    (subst (λ (x : ShardOut). ShardDid number s g.seat g.receiver g.sender zeros x.seat x.receiver x.sender x.counted x.is_full) same_out did.0))
-shards_at s number (g ∷ ins) (o ∷ outs) did (suc k) given out e f =
-    subst (λ n. ShardDid n s given.seat given.receiver given.sender zeros out.seat out.receiver out.sender out.counted out.is_full) (omega arith) (shards_at s (number + 1) ins outs did.1 k given out e f)
+    subst (λ n. ShardDid capacity n s given.seat given.receiver given.sender zeros out.seat out.receiver out.sender out.counted out.is_full) (omega arith)
+    (subst (λ (x : ShardIn). ShardDid capacity number s x.seat x.receiver x.sender zeros out.seat out.receiver out.sender out.counted out.is_full) same_given
+    (subst (λ (x : ShardOut). ShardDid capacity number s g.seat g.receiver g.sender zeros x.seat x.receiver x.sender x.counted x.is_full) same_out did.0))
+shards_at {capacity} s number (g ∷ ins) (o ∷ outs) did (suc k) given out e f =
+    subst (λ n. ShardDid capacity n s given.seat given.receiver given.sender zeros out.seat out.receiver out.sender out.counted out.is_full) (omega arith) (shards_at s (number + 1) ins outs did.1 k given out e f)
 
-pub same_shards : (s : Settings) (number : ℕ) (ins : List ShardIn) (outs : List ShardOut) → ShardsDid s number ins outs → length outs ≡ length ins
-same_shards s number [] [] did = refl
-same_shards s number [] (o ∷ outs) did = absurd did
-same_shards s number (g ∷ ins) [] did = absurd did
-same_shards s number (g ∷ ins) (o ∷ outs) did = ap suc (same_shards s (number + 1) ins outs did.1)
+pub same_shards : (capacity : ℕ) (s : Settings) (number : ℕ) (ins : List ShardIn) (outs : List ShardOut) → ShardsDid capacity s number ins outs → length outs ≡ length ins
+same_shards capacity s number [] [] did = refl
+same_shards capacity s number [] (o ∷ outs) did = absurd did
+same_shards capacity s number (g ∷ ins) [] did = absurd did
+same_shards capacity s number (g ∷ ins) (o ∷ outs) did = ap suc (same_shards capacity s (number + 1) ins outs did.1)
 
 module _ {F : Type 0} (serves : ℕ → F → LaneAt → F → LaneAt → Bool → Type 0) (keeps_doubles : Bool) (capacity : ℕ) where
   pub same_columns : (number : ℕ) (acceptors : List F) (columns : List (List (EndState Item))) (outs : List LaneOut) → LanesDid serves keeps_doubles capacity number acceptors columns outs → length columns ≡ length acceptors

@@ -7,3 +7,4 @@ pub mod Deciding
 mod Effects
 mod Fates
 pub mod Sent
+mod AllBut

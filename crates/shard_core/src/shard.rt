@@ -1,5 +1,6 @@
 //! The buffer and the cache of a shard, and how it decides.
-ghost use Rattle.std.specs.Prelude.{◌≡◌, ◌⊎◌, ◌-◌, ◌^◌, min, ℕ, replicate, [], ◌∷◌, ◌++◌, ◌+◌, ◌/◌, if◌then◌else◌, ◌<◌, ◌≤◌, max, Bool, IsTrue, IsSome, true, false, length, OnOk, IfOk, IsErr, position, Some, None};
+ghost use Rattle.std.specs.Prelude.{◌≡◌, ◌⊎◌, ◌-◌, ◌^◌, min, ℕ, replicate, [], ◌∷◌, ◌++◌, ◌+◌, ◌/◌, if◌then◌else◌, ◌<◌, ◌≤◌, max, Bool, IsTrue, IsSome, true, false, length, OnOk, IfOk, IsErr, position, Some, None, slice_set};
+ghost use Rattle.std.specs.List.{list_all};
 ghost use Rattle.span_ids.specs.declared.outcome.Reason.{Reason};
 ghost use Rattle.span_ids.specs.Same.{same_trace};
 ghost use Rattle.journal_theory.specs.Journal.{Journal, IsAnswered};
@@ -137,6 +138,17 @@ impl Shard {
         ensures { result ≡ is_finished self.now }
     {
         self.ends.iter().all(|ended| *ended)
+    }
+
+    /// Whether every sender has ended once this item is taken.
+    pub fn finishes_with(&self, item: &Item) -> bool
+        requires running { is_finished self.now ≡ false }
+        ensures { result ≡ list_all (λ b. b) (ends_after item.now self.now.standing.ends) }
+    {
+        match item {
+            Item::End(sender) => all_but(&self.ends, *sender as usize),
+            Item::Span(_) | Item::Tick(_) => false,
+        }
     }
 
     /// Takes an item. A span has valid ids. An `End` taken before, or of no sender, changes nothing.
@@ -286,6 +298,18 @@ impl Shard {
         let spans = self.buffer.settle(mark, decision_wait, root_wait, verdict);
         (decided(verdict, spans), decider)
     }
+}
+
+/// Whether all others are set.
+fn all_but(ends: &Vec<bool>, place: usize) -> bool
+    ensures { result ≡ list_all (λ b. b) (slice_set ends.now.items place true) }
+{
+    for at in 0..ends.len() {
+        if at != place && !ends[at] {
+            return false;
+        }
+    }
+    true
 }
 
 /// The verdict of the policies on an episode's spans, and the place of the one that decides, if one does: of none where

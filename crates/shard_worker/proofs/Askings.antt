@@ -1,6 +1,6 @@
 -- The limiter is asked at one more decision.
 -- For the clause `done` of `Turns::decide_due`.
-use Rattle.std.proofs.Common.{◌≡◌, ℕ, zero, suc, ◌/◌, Bool, true, false, List, [], ◌∷◌, ◌++◌, length, take, drop, refl, sym, subst}
+use Rattle.std.proofs.Common.{◌≡◌, ℕ, zero, suc, ◌/◌, Bool, true, false, List, [], ◌∷◌, ◌++◌, take, drop, refl, sym, subst}
 use Rattle.std.proofs.lemmas.Bool.{and_parts}
 use Rattle.journal_theory.proofs.Answering.{no_more, due-same}
 use Rattle.policy_eval.specs.Amounts.{amount_at}

@@ -20,8 +20,8 @@ use Rattle.shard_core.specs.Held.{Held, settings, StandsFor, is_finished}
 use Rattle.journal_theory.specs.Standing.{Standing, ends}
 use Rattle.journal_theory.specs.Marked.{MarksApply, marks_apply}
 use Rattle.shard_worker.specs.Asking.{AskedBy}
-use Rattle.shard_worker.specs.Work.{shipments, items, HaveIds, with_ids, journal_of, counted_in, ShardWorks}
-use Rattle.shard_worker.specs.Turns.{counted_dealt, HasDone, TakesItem}
+use Rattle.shard_worker.specs.Work.{shipments, items, HaveIds, with_ids, journal_of, counted_in, ShardWorks, TicksWait}
+use Rattle.shard_worker.specs.Turns.{counted_dealt, HasDone, TakesItem, HasTaken}
 
 filter-append : {X : Type 0} (p : X → Bool) (xs ys : List X) → filter p (xs ++ ys) ≡ filter p xs ++ filter p ys
 filter-append p [] ys = refl
@@ -41,13 +41,13 @@ all_taken (x ∷ rest) have = ap (λ (b : Bool). cond b (x ∷ with_ids rest) (w
 with_one : (place : ℕ) (e : Entry) (b : Bool) → has_ids e.item ≡ b → with_ids ((place, e) ∷ []) ≡ cond b ((place, e) ∷ []) []
 with_one place e b is = ap (λ c. cond c ((place, e) ∷ []) []) is
 
-journal_one : (popped : List (ℕ × Entry)) (place : ℕ) (e : Entry) (b : Bool) → has_ids e.item ≡ b → journal_of (popped ++ (place, e) ∷ []) ≡ cond b (e ∷ journal_of popped) (journal_of popped)
+pub journal_one : (popped : List (ℕ × Entry)) (place : ℕ) (e : Entry) (b : Bool) → has_ids e.item ≡ b → journal_of (popped ++ (place, e) ∷ []) ≡ cond b (e ∷ journal_of popped) (journal_of popped)
 journal_one popped place e b is = ap (λ l. reverse (entries l)) (filter-append (λ (x : ℕ × Entry). has_ids x.1.item) popped ((place, e) ∷ []) ∙ ap (λ l. with_ids popped ++ l) (with_one place e b is)) ∙ go b where
   go : (c : Bool) → reverse (entries (with_ids popped ++ cond c ((place, e) ∷ []) [])) ≡ cond c (e ∷ journal_of popped) (journal_of popped)
   go true = ap reverse (map-append (λ (x : ℕ × Entry). x.1) (with_ids popped) ((place, e) ∷ [])) ∙ reverse-append (entries (with_ids popped)) (e ∷ [])
   go false = ap (λ l. reverse (entries l)) (append-nil (with_ids popped))
 
-items_more : (popped : List (ℕ × Entry)) (place : ℕ) (e : Entry) → items (popped ++ (place, e) ∷ []) ≡ items popped ++ (place, e.item) ∷ []
+pub items_more : (popped : List (ℕ × Entry)) (place : ℕ) (e : Entry) → items (popped ++ (place, e) ∷ []) ≡ items popped ++ (place, e.item) ∷ []
 items_more popped place e = map-append (λ (x : ℕ × Entry). (x.0, x.1.item)) popped ((place, e) ∷ [])
 
 pub merged_more : (n place : ℕ) (item : Item) (old new : List (EndState Item)) (popped : List (ℕ × Entry)) (e : Entry) → e.item ≡ item → TakesAt n place item old new → IsMergeOf old (items popped)
@@ -57,7 +57,7 @@ merged_more n place item old new popped e is takes merge =
 
 -- what the loop keeps of what was popped
 abbrev pub Kept : {L : Type 0} → (asks : L → ℕ → ℕ → ℕ → Bool → L → Type 0) → (first : L) → Settings → List (EndState Item) → TallyState → Held → List Shipment → TallyState → L → List (ℕ × Entry) → Type 0
-Kept asks first s ends before shard shipped tally limiter popped = IsMergeOf ends (items popped) × MarksApply s (journal_of popped) × HasDone asks first before shard shipped tally limiter (journal_of popped)
+Kept asks first s ends before shard shipped tally limiter popped = HasTaken asks first s ends before shard shipped tally limiter popped
 
 abbrev pub unmarked : Item → Entry
 unmarked item = record { item = item; refused = false; lost = false; answers = [] }
@@ -108,22 +108,27 @@ both_sides true false = refl
 both_sides false true = refl
 both_sides false false = refl
 
-all_ended : (past : Journal) (n : ℕ) → list_all (λ b. b) (ends past n) ≡ have_ended past n
+pub all_ended : (past : Journal) (n : ℕ) → list_all (λ b. b) (ends past n) ≡ have_ended past n
 all_ended past zero = refl
 all_ended past (suc n) = list_all-append (λ b. b) (ends past n) (has_ended past n ∷ []) ∙ ap (λ a. a && (has_ended past n && true)) (all_ended past n) ∙ both_sides (have_ended past n) (has_ended past n)
 
+-- a shard that is finished stands for a journal that has the End of each sender
+pub have_all_ended : (s : Settings) (shard : Held) (J : Journal) (dealt : ℕ) → settings shard ≡ s → StandsFor shard J dealt → is_finished shard ≡ true → have_ended J s.senders ≡ true
+have_all_ended s shard J dealt is stands finished = sym (all_ended J s.senders) ∙ ap (λ z. list_all (λ b. b) (ends J z.senders)) (sym is) ∙ sym (ap (λ (st : Standing). list_all (λ b. b) st.ends) stands.1) ∙ finished
+
 -- the last End was taken
-pub works : {L : Type 0} (asks : L → ℕ → ℕ → ℕ → Bool → L → Type 0) (first : L) (number : ℕ) (s : Settings) (shard : Held) (receiver : ReceiverState Item) (items_shipped : List Shipment) (sender : EndState Shipment) (before tally : TallyState) (limiter : L) (popped : List (ℕ × Entry))
-    → settings shard ≡ s → is_finished shard ≡ true → sender.items ≡ items_shipped ++ End number ∷ [] → Kept asks first s receiver.ends before shard items_shipped tally limiter popped
-    → ShardWorks asks number s shard receiver sender before tally first limiter popped
-works asks first number s shard receiver items_shipped sender before tally limiter popped is finished shipped kept =
+pub works : {L : Type 0} (asks : L → ℕ → ℕ → ℕ → Bool → L → Type 0) (first : L) (capacity number : ℕ) (s : Settings) (shard : Held) (receiver : ReceiverState Item) (items_shipped : List Shipment) (sender : EndState Shipment) (before tally : TallyState) (limiter : L) (popped : List (ℕ × Entry))
+    → settings shard ≡ s → is_finished shard ≡ true → sender.items ≡ items_shipped ++ End number ∷ [] → TicksWait capacity (length receiver.ends) s.senders popped → Kept asks first s receiver.ends before shard items_shipped tally limiter popped
+    → ShardWorks asks capacity number s shard receiver sender before tally first limiter popped
+works asks first capacity number s shard receiver items_shipped sender before tally limiter popped is finished shipped wait kept =
     let J = journal_of popped in
     let done = kept.2 in
     let same : effect_dealt s J done.dealt ≡ effect s J = subst (λ z. effect_dealt z J done.dealt ≡ effect z J) is done.all_dealt in
     record {
       of_queues = kept.0;
+      ticks_wait = wait;
       whole = λ have. ap (λ l. reverse (entries l)) (all_taken popped have);
-      ended = sym (all_ended J s.senders) ∙ ap (λ z. list_all (λ b. b) (ends J z.senders)) (sym is) ∙ sym (ap (λ (st : Standing). list_all (λ b. b) st.ends) done.at.stands.1) ∙ finished;
+      ended = have_all_ended s shard J done.dealt is done.at.stands finished;
       dealt = done.dealt;
       stands = done.at.stands;
       marked = kept.1;
@@ -138,10 +143,10 @@ works asks first number s shard receiver items_shipped sender before tally limit
       counts (Dropped reason) = ap (λ (e : Effect). length (under reason e.counted)) (subst (λ z. effect_dealt z (journal_of popped) kept.2.dealt ≡ effect z (journal_of popped)) is kept.2.all_dealt)
 
 -- the same of the values that were given back
-pub works_ended : {L : Type 0} (asks : L → ℕ → ℕ → ℕ → Bool → L → Type 0) (first : L) (number turns_number : ℕ) (s : Settings) (shard shard' : Held) (receiver receiver' : ReceiverState Item) (sender sender' : EndState Shipment) (before tally tally' : TallyState) (limiter limiter' : L) (popped : List (ℕ × Entry))
+pub works_ended : {L : Type 0} (asks : L → ℕ → ℕ → ℕ → Bool → L → Type 0) (first : L) (capacity number turns_number : ℕ) (s : Settings) (shard shard' : Held) (receiver receiver' : ReceiverState Item) (sender sender' : EndState Shipment) (before tally tally' : TallyState) (limiter limiter' : L) (popped : List (ℕ × Entry))
     → settings shard ≡ s → is_finished shard ≡ true → turns_number ≡ number → sender' ≡ with_item sender (End turns_number) → shard' ≡ shard → limiter' ≡ limiter → receiver' ≡ receiver → tally' ≡ tally
-    → Kept asks first s receiver.ends before shard sender.items tally limiter popped → ShardWorks asks number s shard' receiver' sender' before tally' first limiter' popped
-works_ended {L} asks first number turns_number s shard shard' receiver receiver' sender sender' before tally tally' limiter limiter' popped is finished numbers shipped same_shard same_limiter same_receiver same_tally kept =
-    let P : Held → ReceiverState Item → TallyState → L → Type 0 = λ h r t l. ShardWorks asks number s h r sender' before t first l popped in
-    let here = works asks first number s shard receiver sender.items sender' before tally limiter popped is finished (ap (λ (e : EndState Shipment). e.items) shipped ∙ ap (λ n. sender.items ++ End n ∷ []) numbers) kept in
+    → TicksWait capacity (length receiver.ends) s.senders popped → Kept asks first s receiver.ends before shard sender.items tally limiter popped → ShardWorks asks capacity number s shard' receiver' sender' before tally' first limiter' popped
+works_ended {L} asks first capacity number turns_number s shard shard' receiver receiver' sender sender' before tally tally' limiter limiter' popped is finished numbers shipped same_shard same_limiter same_receiver same_tally wait kept =
+    let P : Held → ReceiverState Item → TallyState → L → Type 0 = λ h r t l. ShardWorks asks capacity number s h r sender' before t first l popped in
+    let here = works asks first capacity number s shard receiver sender.items sender' before tally limiter popped is finished (ap (λ (e : EndState Shipment). e.items) shipped ∙ ap (λ n. sender.items ++ End n ∷ []) numbers) wait kept in
     subst (λ h. P h receiver' tally' limiter') (sym same_shard) (subst (λ r. P shard r tally' limiter') (sym same_receiver) (subst (λ t. P shard receiver t limiter') (sym same_tally) (subst (λ l. P shard receiver tally l) (sym same_limiter) here)))

@@ -1,15 +1,17 @@
 -- What a shard's thread did.
-use Rattle.std.specs.Prelude.{◌≡◌, ℕ, Bool, true, List, [], ◌∷◌, ◌++◌, map, filter, reverse, length}
+use Rattle.std.specs.Prelude.{◌≡◌, ◌≢◌, ◌⊎◌, ℕ, ◌<◌, ◌≤◌, Bool, true, false, List, [], ◌∷◌, ◌++◌, map, filter, reverse, length}
 use Rattle.std.specs.List.{AllByRecursion}
 use Rattle.otlp_types.specs.declared.arrival.Arrival.{Arrival}
 use Rattle.otlp_types.specs.declared.arrival.Item.{Item}
+use Rattle.otlp_types.specs.declared.arrival.Item.TheVariants.{Tick}
 use Rattle.otlp_types.specs.declared.arrival.Shipment.{Shipment}
 use Rattle.otlp_types.specs.declared.arrival.Shipment.TheVariants.{Span, End}
 use Rattle.drop_ledger.specs.declared.count.Count.{Count}
 use Rattle.drop_ledger.specs.declared.count.Count.TheVariants.{Received, Handed, Dropped}
 use Rattle.drop_ledger.specs.Places.{TallyState, Tallies}
 use Rattle.lane_queue.specs.Ends.{EndState, ReceiverState}
-use Rattle.lane_queue.specs.Merges.{IsMergeOf}
+use Rattle.lane_queue.specs.Merges.{IsMergeOf, of}
+use Rattle.lane_queue.specs.Moments.{WasEmpty}
 use Rattle.journal_theory.specs.Journal.{Entry, Settings, Journal, have_ended, IsAnswered, has_ids}
 use Rattle.journal_theory.specs.Fate.{effect, output, under}
 use Rattle.shard_core.specs.Held.{Held, StandsFor}
@@ -42,12 +44,63 @@ counted_in s past Received = 0
 counted_in s past Handed = 0
 counted_in s past (Dropped reason) = length (under reason (effect s past).counted)
 
+-- ---- in which order it takes what it pops: a tick behind what waited in its other queues
+
+abbrev pub is_tick : Item → Bool
+is_tick (Tick moment) = true
+is_tick _ = false
+
+-- what a shard took of what it popped in one round: an item that is no tick; or a tick behind what it popped of other
+-- queues since it had popped that; or so, and behind the tick the item with which every sender has ended
+pub data Round : Type 0 where
+  alone : ℕ × Entry → Round
+  behind : (drained : List (ℕ × Entry)) → (tick : ℕ × Entry) → Round
+  ending : (drained : List (ℕ × Entry)) → (tick last : ℕ × Entry) → Round
+
+-- what was taken in a round, in order
+abbrev pub taken_in : Round → List (ℕ × Entry)
+taken_in (alone x) = x ∷ []
+taken_in (behind drained tick) = drained ++ tick ∷ []
+taken_in (ending drained tick last) = drained ++ tick ∷ last ∷ []
+
+-- what was taken in these rounds, of which the newest stands first
+abbrev pub taken_by : List Round → List (ℕ × Entry)
+taken_by [] = []
+taken_by (round ∷ earlier) = taken_by earlier ++ taken_in round
+
+-- since the tick was popped, before which these earlier items had been taken, the queue at this place was empty at a
+-- moment, or as many items were popped of it as it may hold
+abbrev pub IsBehind : (capacity : ℕ) → (earlier drained : List (ℕ × Entry)) → (place : ℕ) → Type 0
+IsBehind capacity earlier drained place = WasEmpty capacity (of place (items (earlier ++ drained))) ⊎ (capacity ≤ length (of place (items drained)))
+
+-- what holds of a round behind these earlier items
+abbrev pub IsRound : (capacity queues senders : ℕ) → (earlier : List (ℕ × Entry)) → Round → Type 0
+IsRound capacity queues senders earlier (alone x) = is_tick x.1.item ≡ false
+IsRound capacity queues senders earlier (behind drained tick) = (place : ℕ) → place < queues → place ≢ tick.0 → IsBehind capacity earlier drained place
+IsRound capacity queues senders earlier (ending drained tick last) = have_ended (journal_of (earlier ++ (drained ++ tick ∷ last ∷ []))) senders ≡ true
+
+abbrev pub AreRounds : (capacity queues senders : ℕ) → List Round → Type 0
+AreRounds capacity queues senders [] = Unit {0}
+AreRounds capacity queues senders (round ∷ earlier) = IsRound capacity queues senders (taken_by earlier) round × AreRounds capacity queues senders earlier
+
+-- What was popped of so many queues was taken in rounds: no tick was taken before each other queue was empty at a moment
+-- since the tick was popped, or as many items were popped of it since as it may hold, unless every sender had ended with
+-- the item behind it.
+pub record TicksWait (capacity queues senders : ℕ) (popped : List (ℕ × Entry)) : Type 0 where
+  pub rounds : List Round
+  pub taken : popped ≡ taken_by rounds
+  pub each : AreRounds capacity queues senders rounds
+
+-- ---- what it did
+
 -- A shard of these settings that had taken nothing popped these items, each marked as the shard took it and with the
 -- limiter's answers to the decisions at it, and ended with this shard, receiver and sender; the limiter went from one
 -- state to the other.
-pub record ShardWorks {L : Type 0} (asks : L → ℕ → ℕ → ℕ → Bool → L → Type 0) (number : ℕ) (s : Settings) (shard : Held) (receiver : ReceiverState Item) (sender : EndState Shipment) (before after : TallyState) (first last : L) (popped : List (ℕ × Entry)) : Type 0 where
+pub record ShardWorks {L : Type 0} (asks : L → ℕ → ℕ → ℕ → Bool → L → Type 0) (capacity number : ℕ) (s : Settings) (shard : Held) (receiver : ReceiverState Item) (sender : EndState Shipment) (before after : TallyState) (first last : L) (popped : List (ℕ × Entry)) : Type 0 where
   -- they are what was popped of each sender's queue, in order
   pub of_queues : IsMergeOf receiver.ends (items popped)
+  -- each tick waited for what its other queues held when it was popped; a queue may hold `capacity` items
+  pub ticks_wait : TicksWait capacity (length receiver.ends) s.senders popped
   -- where no popped span is without valid ids, the journal has all that was popped; one without is in no journal, so it
   -- is neither shipped nor counted
   pub whole : HaveIds popped → journal_of popped ≡ reverse (map (λ (x : ℕ × Entry). x.1) popped)

@@ -10,12 +10,13 @@ use Rattle.policy_tree.specs.declared.policy.Leaf.TheVariants as leaf_is
 use Rattle.policy_tree.specs.declared.policy.Wanted.TheVariants.{StringAmong, StringMatching}
 use Rattle.tsc_config.specs.Values.{config_of, leaf_in, salt_by, share_limit, percent_among, bucket}
 use Rattle.tsc_config.specs.declared.config.Config.{Config}
+use Rattle.tsc_config.specs.declared.log_form.LogForm.TheVariants as log_is
 use Rattle.tsc_config.specs.declared.exports.Export.{Export}
 
 -- the numbers of a configuration: those of the table, and of `decision_cache`
 abbrev numbers_of : Config → List ℕ
 numbers_of c =
-    c.decision_wait ∷ c.root_wait ∷ c.num_traces ∷ c.lanes ∷ c.shards ∷ c.queue_capacity ∷ c.export_capacity ∷ c.send_batch_size ∷ c.max_connections ∷ c.memory_limit_mib ∷ c.maximum_trace_size ∷ c.tick
+    c.decision_wait ∷ c.root_wait ∷ c.num_traces ∷ c.lanes ∷ c.shards ∷ c.queue_capacity ∷ c.export_capacity ∷ c.send_batch_size ∷ c.max_connections ∷ c.memory_limit_mib ∷ c.max_request_mib ∷ c.maximum_trace_size ∷ c.tick
     ∷ c.sampled_cache_size ∷ c.non_sampled_cache_size ∷ []
 
 -- a table with all keys, each with one of its numbers
@@ -26,7 +27,7 @@ members_of number (r ∷ rows) rest = member r.key (integer (pos (number r))) (m
 abbrev table_of : (Range → ℕ) → Members
 table_of number = members_of number ranges (member (codes "decision_cache") (table (members_of number cache_ranges no_members)) no_members)
 
-defaults : numbers_of (config_of no_members) ≡ 30000 ∷ 0 ∷ 50000 ∷ 1 ∷ 1 ∷ 1024 ∷ 1024 ∷ 512 ∷ 1024 ∷ 0 ∷ 0 ∷ 1000 ∷ 0 ∷ 0 ∷ []
+defaults : numbers_of (config_of no_members) ≡ 30000 ∷ 0 ∷ 50000 ∷ 1 ∷ 1 ∷ 1024 ∷ 1024 ∷ 512 ∷ 1024 ∷ 0 ∷ 4 ∷ 0 ∷ 1000 ∷ 0 ∷ 0 ∷ []
 defaults = refl
 
 no_second_address_by_default : (config_of no_members).admin ≡ []
@@ -37,6 +38,11 @@ second_address = refl
 
 listens_by_default : (config_of no_members).listen ≡ codes "127.0.0.1:4318"
 listens_by_default = refl
+
+-- the form of the log: by default, and by each of its texts
+logs_by : map (λ members. (config_of members).log) (no_members ∷ one_text (codes "log") (codes "text") ∷ one_text (codes "log") (codes "json") ∷ one_text (codes "log") (codes "off") ∷ [])
+    ≡ log_is.Text ∷ log_is.Text ∷ log_is.Json ∷ log_is.Off ∷ []
+logs_by = refl
 
 -- ten spans a second: one of three equal shares, a quarter, and all; and one share of none
 shares : map (share_limit 10 3) (None ∷ Some 25 ∷ Some 100 ∷ []) ≡ 3 ∷ 2 ∷ 10 ∷ []
@@ -78,10 +84,10 @@ chosen : map (λ members. choices_of (config_of members)) (no_members
 chosen = refl
 
 -- each key gives its own number
-lowest_values : numbers_of (config_of (table_of (λ r. r.lowest))) ≡ 1 ∷ 0 ∷ 1 ∷ 1 ∷ 1 ∷ 1 ∷ 1 ∷ 1 ∷ 1 ∷ 0 ∷ 0 ∷ 1 ∷ 0 ∷ 0 ∷ []
+lowest_values : numbers_of (config_of (table_of (λ r. r.lowest))) ≡ 1 ∷ 0 ∷ 1 ∷ 1 ∷ 1 ∷ 1 ∷ 1 ∷ 1 ∷ 1 ∷ 0 ∷ 1 ∷ 0 ∷ 1 ∷ 0 ∷ 0 ∷ []
 lowest_values = refl
 
-greatest_values : numbers_of (config_of (table_of (λ r. r.greatest))) ≡ 3600000 ∷ 3600000 ∷ 1000000 ∷ 64 ∷ 64 ∷ 65536 ∷ 65536 ∷ 8192 ∷ 65536 ∷ 1048576 ∷ 1073741824 ∷ 60000 ∷ 1000000 ∷ 1000000 ∷ []
+greatest_values : numbers_of (config_of (table_of (λ r. r.greatest))) ≡ 3600000 ∷ 3600000 ∷ 1000000 ∷ 64 ∷ 64 ∷ 65536 ∷ 65536 ∷ 8192 ∷ 65536 ∷ 1048576 ∷ 64 ∷ 1073741824 ∷ 60000 ∷ 1000000 ∷ 1000000 ∷ []
 greatest_values = refl
 
 abbrev own_numbers : Members
@@ -96,11 +102,12 @@ own_numbers =
     (member (codes "send_batch_size") (integer (pos 19))
     (member (codes "max_connections") (integer (pos 37))
     (member (codes "memory_limit_mib") (integer (pos 41))
+    (member (codes "max_request_mib") (integer (pos 47))
     (member (codes "maximum_trace_size_bytes") (integer (pos 43))
     (member (codes "tick_ms") (integer (pos 23))
-    (member (codes "decision_cache") (table (member (codes "sampled_cache_size") (integer (pos 29)) (member (codes "non_sampled_cache_size") (integer (pos 31)) no_members))) no_members))))))))))))
+    (member (codes "decision_cache") (table (member (codes "sampled_cache_size") (integer (pos 29)) (member (codes "non_sampled_cache_size") (integer (pos 31)) no_members))) no_members)))))))))))))
 
-own_values : numbers_of (config_of own_numbers) ≡ 2 ∷ 3 ∷ 5 ∷ 7 ∷ 11 ∷ 13 ∷ 17 ∷ 19 ∷ 37 ∷ 41 ∷ 43 ∷ 23 ∷ 29 ∷ 31 ∷ []
+own_values : numbers_of (config_of own_numbers) ≡ 2 ∷ 3 ∷ 5 ∷ 7 ∷ 11 ∷ 13 ∷ 17 ∷ 19 ∷ 37 ∷ 41 ∷ 47 ∷ 43 ∷ 23 ∷ 29 ∷ 31 ∷ []
 own_values = refl
 
 -- the wait from a root on by each of its two names, and by neither

@@ -1,6 +1,6 @@
 -- Each setting is what stands at its key, or the key's default.
 -- For `settings_are_of_their_keys`.
-use Rattle.std.proofs.Common.{◌≡◌, [], ◌∷◌, ℕ, ◌≤◌, pos, negsuc, Bool, true, false, ◌⊎◌, inl, inr, refl, sym, ◌∙◌, arith, codes, List, Option, None, Some, Ok, Err, subst, if◌then◌else◌, nat_lt, nat_le, int_le, ◌&&◌, ◌||◌}
+use Rattle.std.proofs.Common.{ap, ◌≡◌, [], ◌∷◌, ℕ, ◌≤◌, pos, negsuc, Bool, true, false, ◌⊎◌, inl, inr, refl, sym, ◌∙◌, arith, codes, List, Option, None, Some, Ok, Err, subst, if◌then◌else◌, nat_lt, nat_le, int_le, ◌&&◌, ◌||◌}
 use Rattle.std.proofs.lemmas.Bool.Decides.{nat_tests}
 use Rattle.std.proofs.lemmas.Slice.Eq.{bytes_eq-Decides}
 use Rattle.std.specs.Option.{is_some}
@@ -9,19 +9,22 @@ use Rattle.toml.specs.Data.{Data, string, integer, boolean, table, Members, get_
 use Rattle.toml.specs.Parse.{parse_document}
 use Rattle.policy_tree.specs.Faults.{fault_of_policies}
 use Rattle.policy_tree.specs.declared.fault.PolicyFault.{PolicyFault}
-use Rattle.config_faults.specs.Faults.{config_fault_number, least, optional, required, unknown_fault, integer_fault, text_fault, truth_fault, choice_fault, cache_fault, endpoint_fault, field_fault, fields_fault, headers_fault, export_fault, setting_fault, each_setting_fault, policies_fault, table_fault, keys_fault, twice_fault}
+use Rattle.config_faults.specs.Faults.{config_fault_number, least, optional, required, unknown_fault, integer_fault, text_fault, truth_fault, choice_fault, is_log_form, log_fault, cache_fault, endpoint_fault, field_fault, fields_fault, headers_fault, export_fault, setting_fault, each_setting_fault, policies_fault, table_fault, keys_fault, twice_fault}
 use Rattle.config_faults.specs.Setting.{Setting}
-use Rattle.config_faults.specs.Tables.{NumberRow, number_row, ChoiceRow, choice_row, number_setting, root_setting, choice_setting, switch, top_settings, cache_settings, export_settings}
+use Rattle.config_faults.specs.Tables.{NumberRow, number_row, ChoiceRow, choice_row, number_setting, root_setting, choice_setting, log_setting, switch, top_settings, cache_settings, export_settings}
 use Rattle.config_faults.specs.declared.tables.ChoiceKey.{ChoiceKey}
 use Rattle.config_faults.specs.declared.tables.ChoiceKey.TheVariants as choice_is
+use Rattle.config_faults.specs.declared.tables.TextKey.TheVariants as text_is
 use Rattle.config_faults.specs.declared.tables.NumberKey.{NumberKey}
 use Rattle.config_faults.specs.declared.tables.NumberKey.TheVariants as number_is
 use Rattle.tsc_config.specs.Reading.{expressions_among, some_is_none, reading, reading_of, reading_unless, reading_where}
 use Rattle.config_faults.specs.Exports.{is_endpoint}
 use Rattle.tsc_config.specs.HeaderFields.{value_of, fields_in, headers_of, AreFields}
 use Rattle.config_faults.specs.Headers.{may_be_sent}
-use Rattle.tsc_config.specs.Settings.{IsNumberAtEither, IsTextAt, IsTruthAt, IsChoiceAt, AreHeadersAt, HasExport, IsExportAt, HasSettings, ReadsSettings}
-use Rattle.tsc_config.specs.Values.{config_of, bounded_of, number_by, natural_of, first_found, cache_size, address_of, truth_of, is_other, text_of, number_or, export_in, export_of}
+use Rattle.tsc_config.specs.Settings.{IsNumberAtEither, IsTextAt, IsTruthAt, IsChoiceAt, IsLogAt, AreHeadersAt, HasExport, IsExportAt, HasSettings, ReadsSettings}
+use Rattle.tsc_config.specs.declared.log_form.LogForm.{LogForm}
+use Rattle.tsc_config.specs.declared.log_form.LogForm.TheVariants as log_is
+use Rattle.tsc_config.specs.Values.{config_of, bounded_of, number_by, natural_of, first_found, cache_size, address_of, truth_of, is_other, log_form_of, text_of, number_or, export_in, export_of}
 use Rattle.tsc_config.specs.declared.config.Config.{Config}
 use Rattle.config_faults.specs.declared.fault.ConfigFault.{ConfigFault}
 use Rattle.config_faults.specs.declared.fault.ConfigFault.TheVariants.{OutOfRange, TooFewTraces, UnknownKey, NotAnExpression}
@@ -136,6 +139,20 @@ choice row given (Some (string bytes)) e f = of (bytes_eq bytes row.other) refl
         inr (inl (rw (← same) e, refl))
 choice row given (Some _) e f = cc
 
+-- the form of the log
+log_form : (given : Members) (at : Option Data) → get_member (codes "log") given ≡ at → optional log_fault at ≡ None → IsLogAt given (log_form_of at)
+log_form given None e f = inl (e, refl)
+log_form given (Some (string bytes)) e f = of (bytes_eq bytes (codes "json")) (bytes_eq bytes (codes "off")) refl refl
+  where
+    of : (j o : Bool) → bytes_eq bytes (codes "json") ≡ j → bytes_eq bytes (codes "off") ≡ o → IsLogAt given (if j then log_is.Json else if o then log_is.Off else log_is.Text)
+    of true o t u = let same : bytes ≡ codes "json" = (bytes_eq-Decides bytes (codes "json")).0 t in inr (inr (inl (rw (← same) e, refl)))
+    of false true t u = let same : bytes ≡ codes "off" = (bytes_eq-Decides bytes (codes "off")).0 u in inr (inr (inr (rw (← same) e, refl)))
+    of false false t u =
+        let first : bytes_eq bytes (codes "text") ≡ true = first_of _ _ (allowed (is_log_form bytes) f) (ap (λ b. b || bytes_eq bytes (codes "off")) t ∙ u) in
+        let same : bytes ≡ codes "text" = (bytes_eq-Decides bytes (codes "text")).0 first in
+        inr (inl (rw (← same) e, refl))
+log_form given (Some _) e f = cc
+
 -- a size of the table of caches
 cache : (given : Members) (key : NumberKey) (at : Option Data) → get_member (codes "decision_cache") given ≡ at → optional cache_fault at ≡ None
     → setting_named (number_row key).name cache_settings ≡ Some (number_setting key)
@@ -244,6 +261,7 @@ whole members e =
       send_batch_size = number_in top_settings members number_is.SendBatchSize refl f;
       max_connections = number_in top_settings members number_is.MaxConnections refl f;
       memory_limit_mib = number_in top_settings members number_is.MemoryLimit refl f;
+      max_request_mib = number_in top_settings members number_is.MaxRequest refl f;
       maximum_trace_size = number_in top_settings members number_is.MaximumTraceSize refl f;
       tick = number_in top_settings members number_is.Tick refl f;
       listen = text (codes "listen") (codes "127.0.0.1:4318") members (get_member (codes "listen") members) refl (free top_settings members (codes "listen") _ refl f);
@@ -253,6 +271,7 @@ whole members e =
       keeps_doubles = chosen members choice_is.DoubleValues refl f;
       close_at_end_of_input = switched members (codes "close_at_end_of_input") refl f;
       admin = text (codes "admin") [] members (get_member (codes "admin") members) refl (free top_settings members (codes "admin") _ refl f);
+      log = log_form members (get_member (codes "log") members) refl (free top_settings members (codes "log") (log_setting text_is.Log) refl f);
       export = exports members (get_member (codes "export") members) refl t.2;
     }
 

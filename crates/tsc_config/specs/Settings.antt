@@ -6,6 +6,8 @@ use Rattle.tsc_config.specs.Reading.{reading}
 use Rattle.config_faults.specs.Exports.{is_endpoint}
 use Rattle.tsc_config.specs.HeaderFields.{AreFields}
 use Rattle.tsc_config.specs.declared.config.Config.{Config}
+use Rattle.tsc_config.specs.declared.log_form.LogForm.{LogForm}
+use Rattle.tsc_config.specs.declared.log_form.LogForm.TheVariants as log_is
 use Rattle.tsc_config.specs.declared.exports.Export.{Export}
 use Rattle.tsc_config.specs.declared.headers.HeaderField.{HeaderField}
 
@@ -38,6 +40,14 @@ IsChoiceAt members key default other is_other =
     ((get_member key members ≡ None) × (is_other ≡ false))
     ⊎ (((get_member key members ≡ Some (string default)) × (is_other ≡ false))
     ⊎ ((get_member key members ≡ Some (string other)) × (is_other ≡ true)))
+
+-- the form of the log: text, where its key doesn't stand there; else what the text there names
+abbrev pub IsLogAt : Members → LogForm → Type 0
+IsLogAt members form =
+    ((get_member (codes "log") members ≡ None) × (form ≡ log_is.Text))
+    ⊎ (((get_member (codes "log") members ≡ Some (string (codes "text"))) × (form ≡ log_is.Text))
+    ⊎ (((get_member (codes "log") members ≡ Some (string (codes "json"))) × (form ≡ log_is.Json))
+    ⊎ ((get_member (codes "log") members ≡ Some (string (codes "off"))) × (form ≡ log_is.Off))))
 
 -- the size of a cache of decisions: 0 where there is no table of them; else that of its key there
 abbrev pub IsCacheSize : Members → (key : List ℕ) → (size : ℕ) → Type 0
@@ -85,6 +95,7 @@ pub record HasSettings (members : Members) (config : Config) : Type 0 where
   pub send_batch_size : IsNumberAt members (codes "send_batch_size") 512 1 8192 config.send_batch_size
   pub max_connections : IsNumberAt members (codes "max_connections") 1024 1 65536 config.max_connections
   pub memory_limit_mib : IsNumberAt members (codes "memory_limit_mib") 0 0 1048576 config.memory_limit_mib
+  pub max_request_mib : IsNumberAt members (codes "max_request_mib") 4 1 64 config.max_request_mib
   pub maximum_trace_size : IsNumberAt members (codes "maximum_trace_size_bytes") 0 0 1073741824 config.maximum_trace_size
   pub tick : IsNumberAt members (codes "tick_ms") 1000 1 60000 config.tick
   pub listen : IsTextAt members (codes "listen") (codes "127.0.0.1:4318") config.listen
@@ -94,6 +105,7 @@ pub record HasSettings (members : Members) (config : Config) : Type 0 where
   pub keeps_doubles : IsChoiceAt members (codes "double_values") (codes "discard") (codes "keep") config.keeps_doubles
   pub close_at_end_of_input : IsTruthAt members (codes "close_at_end_of_input") config.close_at_end_of_input
   pub admin : IsTextAt members (codes "admin") [] config.admin
+  pub log : IsLogAt members config.log
   pub export : IsExportAt members config.export
 
 -- a text that is read as a configuration is a document with these settings

@@ -25,6 +25,8 @@ use Rattle.config_faults.specs.declared.tables.NumberKey.TheVariants as number_i
 use Rattle.config_faults.specs.declared.policy_types.PolicyType.{PolicyType}
 use Rattle.config_faults.specs.declared.policy_types.PolicyType.TheVariants as type_is
 use Rattle.tsc_config.specs.declared.config.Config.{Config}
+use Rattle.tsc_config.specs.declared.log_form.LogForm.{LogForm}
+use Rattle.tsc_config.specs.declared.log_form.LogForm.TheVariants as log_is
 use Rattle.tsc_config.specs.declared.exports.Export.{Export}
 
 -- the number of a value, within the bounds of this row; any other value counts as absent
@@ -89,6 +91,15 @@ address_of default (Some value) = text_value value
 abbrev pub is_other : ChoiceRow → Option Data → Bool
 is_other row (Some (string text)) = bytes_eq text row.other
 is_other row _ = false
+
+-- the form of the log that a text names
+abbrev pub log_form_named : (text : List ℕ) → LogForm
+log_form_named text = if bytes_eq text (codes "json") then log_is.Json else if bytes_eq text (codes "off") then log_is.Off else log_is.Text
+
+-- the form of the log by what stands at its key
+abbrev pub log_form_of : Option Data → LogForm
+log_form_of (Some (string text)) = log_form_named text
+log_form_of _ = log_is.Text
 
 -- one element or none, before others
 abbrev pub found_before : {A : Type 0} → Option A → List A → List A
@@ -390,10 +401,12 @@ config_of members = record {
   send_batch_size = number_by (number_row number_is.SendBatchSize) members;
   max_connections = number_by (number_row number_is.MaxConnections) members;
   memory_limit_mib = number_by (number_row number_is.MemoryLimit) members;
+  max_request_mib = number_by (number_row number_is.MaxRequest) members;
   maximum_trace_size = number_by (number_row number_is.MaximumTraceSize) members;
   tick = number_by (number_row number_is.Tick) members;
   listen = address_of (codes "127.0.0.1:4318") (get_member (codes "listen") members);
   admin = address_of [] (get_member (codes "admin") members);
+  log = log_form_of (get_member (codes "log") members);
   accept_gzip = truth_of (get_member (codes "accept_gzip") members);
   waits_for_room = is_other (choice_row choice_is.QueueFull) (get_member (choice_row choice_is.QueueFull).name members);
   stops_at_output_fault = is_other (choice_row choice_is.OutputFault) (get_member (choice_row choice_is.OutputFault).name members);

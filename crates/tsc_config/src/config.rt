@@ -11,6 +11,7 @@ ghost use Rattle.tsc_config.specs.Values.{InRange, config_of};
 
 use crate::exports::{Export, export_at};
 use crate::expressions::check_expressions;
+use crate::log_form::{LogForm, log_form_at};
 use crate::settings_values::{number_at, truth_at};
 use crate::values::{addresses_at, cache_size_at, is_other_at, policies_at, root_wait_at};
 use config_faults::{ChoiceKey, ConfigFault, NumberKey, table_fault};
@@ -57,6 +58,9 @@ pub struct Config {
     /// Mebibytes that the process may take before requests are refused, from 0 to 1048576, where 0 is off (this
     /// project's option `memory_limit_mib`).
     pub memory_limit_mib: u64,
+    /// Mebibytes that a request's body has at most, as it comes and unpacked, from 1 to 64 (this project's option
+    /// `max_request_mib`).
+    pub max_request_mib: u64,
     /// How many bytes the spans of a trace take at most while it waits, from 0 to 1073741824, where 0 is off; one that
     /// grows beyond that is decided at once as not sampled (tailsamplingprocessor README, `maximum_trace_size_bytes`).
     pub maximum_trace_size: u64,
@@ -69,6 +73,8 @@ pub struct Config {
     /// The address at which those in charge close the collector and read its numbers, as `address:port`, or nothing:
     /// then it is closed at the address of requests (this project's option `admin`). It is not looked at here.
     pub admin: Text,
+    /// What is said of a run, beside its lines (this project's option `log`).
+    pub log: LogForm,
     /// Whether bodies that are packed by gzip are taken (RFC 9110, section 8.4.1.3; this project's option
     /// `accept_gzip`).
     pub accept_gzip: bool,
@@ -122,6 +128,7 @@ impl Config {
 /// `type` and the settings of that type; `sample_on_first_match`, true or false, else false; `lanes` and `shards`, from
 /// 1 to 64, else 1; `queue_capacity` and `export_capacity`, from 1 to 65536, else 1024; `send_batch_size`, from 1 to
 /// 8192, else 512; `max_connections`, from 1 to 65536, else 1024; `memory_limit_mib`, from 0 to 1048576, else 0;
+/// `max_request_mib`, from 1 to 64, else 4; `log`, `text`, `json` or `off`, else `text`;
 /// `maximum_trace_size_bytes`, from 0 to 1073741824, else 0; `tick_ms`, from 1 to 60000, else 1000; `listen`, a text,
 /// else `127.0.0.1:4318`; `admin`, a text, else nothing; `accept_gzip` and `close_at_end_of_input`, true or false, else
 /// false; `queue_full`, `partial` or `retry`, else `partial`; `output_fault`, `discard` or `stop`, else `discard`; and
@@ -194,10 +201,12 @@ fn given_by(alloc: Global, table: &Table, policies: Policies) -> Result<Config, 
         send_batch_size: number_at(table, NumberKey::SendBatchSize) as usize,
         max_connections: number_at(table, NumberKey::MaxConnections) as usize,
         memory_limit_mib: number_at(table, NumberKey::MemoryLimit),
+        max_request_mib: number_at(table, NumberKey::MaxRequest),
         maximum_trace_size: number_at(table, NumberKey::MaximumTraceSize),
         tick: number_at(table, NumberKey::Tick),
         listen,
         admin,
+        log: log_form_at(table),
         accept_gzip: truth_at(table, "accept_gzip"),
         waits_for_room: is_other_at(table, ChoiceKey::QueueFull),
         stops_at_output_fault: is_other_at(table, ChoiceKey::OutputFault),

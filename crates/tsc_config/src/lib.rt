@@ -19,11 +19,13 @@ mod exports;
 mod expressions;
 mod headers;
 pub mod laws;
+mod log_form;
 mod settings_values;
 mod values;
 
 pub use config::{Config, read};
 pub use exports::Export;
 pub use headers::HeaderField;
+pub use log_form::LogForm;
 pub use settings_values::number_at;
 pub use values::policies_at;

@@ -77,4 +77,4 @@ pub returns-in-Whole-clause-acts : goal.returns-in-Whole-clause-acts
 returns-in-Whole-clause-acts g c = λ r stands.
     let found = c.in-Whole.ensures.brings r stands in
     let served = c.respond-closes.ensures (g.Parser.Engine.body_of c.advance.new.self) c.body-body.ensures in
-    (served.0, found.0, found.2 served.0 served.1, (λ e. found.1), served.2, serves_answers c.in-Whole.is_packed (g.Parser.Engine.body_of c.advance.new.self) c.in-Whole.says_close served.0 served.1)
+    (served.0, found.0, found.2 served.0 served.1, (λ e. found.1), served.2, serves_answers c.in-Whole.limit c.in-Whole.is_packed (g.Parser.Engine.body_of c.advance.new.self) c.in-Whole.says_close served.0 served.1)

@@ -5,7 +5,7 @@ use Rattle.http_lane.proofs.EventLemmas.{can_text, counted_text, Appends-none}
 use Rattle.http_lane.proofs.serving.submit.Goals as goal
 
 pub returns-then-not-count : goal.returns-then-not-count
-returns-then-not-count g c = λ is_packed body is.
+returns-then-not-count g c = λ limit is_packed body is.
     let reply = c.submit-reply.result in
     let cause = submitted c.args.text.now c.now.result reply c.args.says_close in
     let took = c.submit-reply.ensures in
@@ -26,7 +26,7 @@ returns-then-not-count g c = λ is_packed body is.
     )
 
 pub returns : goal.returns
-returns g c = λ is_packed body is.
+returns g c = λ limit is_packed body is.
     let reply = c.submit-reply.result in
     let cause = submitted c.args.text.now c.now.result reply c.args.says_close in
     let took = c.submit-reply.ensures in

@@ -96,7 +96,7 @@ all_done g c =
           (λ l. record { senders = l.senders.items; counted = l.counts; is_full = l.is_full }) _ (λ j l h. h) 0 made.team.first.items c.in-Ok-run_team.left.first.items e.numbers.0
           (all_both (λ j. (j.lane.number ≡ j.number) × (j.room.items ≡ []) × (length j.lane.ports ≤ vec_capacity j.room)) (λ j. (j.lane.connected ≡ 0) × (j.lane.keeps_doubles ≡ c.args.config.now.keeps_doubles)) (λ j. (j.lane.number ≡ j.number) × (j.lane.connected ≡ 0) × (j.lane.keeps_doubles ≡ c.args.config.now.keeps_doubles)) made.team.first.items (λ j h k. (h.0, k.0, k.1)) e.lanes.1 e.new_lanes) ran.first;
       ticker_did = subst (λ n. TickerDid g.TickSource.Ticks.gives n made.team.second.ticks made.team.second.senders.items c.in-Ok-run_team.left.second.items) e.ticker.0 ran.second;
-      shards_did = shards_did (settings_for (core_of c.args.config.now) (c.args.config.now.lanes + 1)) (λ j. j.number) (λ j. record { seat = j.seat; receiver = j.receiver; sender = j.sender }) (λ j. settings j.shard)
+      shards_did = shards_did g.QueueRoom.Room.capacity (settings_for (core_of c.args.config.now) (c.args.config.now.lanes + 1)) (λ j. j.number) (λ j. record { seat = j.seat; receiver = j.receiver; sender = j.sender }) (λ j. settings j.shard)
           (λ l. record { seat = l.seat; receiver = l.receiver; sender = l.sender; counted = l.counts; is_full = l.is_full }) _ (λ j l h. h) 0 third c.in-Ok-run_team.left.third.items e.numbers.1 e.new_shards ran.third;
       exporter_did = ran.main;
     }

@@ -1,36 +1,76 @@
-use Rattle.std.proofs.Common.{refl, ◌∙◌, sym, [], ◌++◌, ◌∷◌}
+-- What is popped is taken in rounds.
+-- For the clauses of `take_all`.
+use Rattle.std.proofs.Common.{◌≡◌, ◌∙◌, ◌∷◌, ℕ, [], length, refl, sym, subst, arith}
 use Rattle.lane_queue.proofs.Merging.{merge_none}
+use Rattle.journal_theory.specs.Journal.{Settings}
 use Rattle.shard_core.specs.Held.{settings}
-use Rattle.shard_worker.proofs.Journals.{kept_none, kept_skipping, kept_taking, unmarked}
+use Rattle.shard_worker.specs.Turns.{HasTaken, HoldsBack}
+use Rattle.shard_worker.specs.Work.{alone, taken_by, IsRound, AreRounds}
+use Rattle.shard_worker.proofs.Journals.{kept_none, kept_skipping, unmarked}
+use Rattle.shard_worker.proofs.HeldBack.{no_tick, same_count, popping}
 use Rattle.shard_worker.proofs.worker.take_all.Goals as goal
 
 pub loop-init : goal.loop-init
 loop-init g c =
     let none = kept_none g.RateLimits.Limiter.asks c.args.turns.now.limiter (settings c.args.turns.now.shard) c.args.receiver.now.ends c.args.turns.now.shard c.args.turns.now.sender.items c.args.turns.now.tally (merge_none c.args.receiver.now.ends c.requires.new_queues.0) c.requires.new_shard c.requires.new_queues.1 in
-    (c.requires.nothing_due, c.requires.running, refl, refl, refl, refl, c.requires.nodes, λ node. refl, ([], none.0, none.1, none.2))
+    (c.requires.nothing_due, c.requires.running, refl, refl, refl, refl, c.requires.nodes, λ node. refl, ([], tt, none))
 
 pub loop-preserved-then-not-is_taken : goal.loop-preserved-then-not-is_taken
 loop-preserved-then-not-is_taken g c =
-    let h = c.loop.invariant.8 in
+    let inv = c.loop.invariant in
+    let h = inv.8 in
     let popped = c.in-Some-pop.ensures.first in
-    let kept = kept_skipping g.RateLimits.Limiter.asks c.args.turns.now.limiter _ popped.0 c.in-Some-pop.item (settings c.args.turns.now.shard) c.loop.receiver.ends c.pop.new.self.ends c.args.turns.now.tally c.loop.turns.shard c.loop.turns.sender.items c.loop.turns.tally c.loop.turns.limiter h.0
-    (sym c.is_taken.ensures ∙ c.if-not-is_taken.true) popped.1.takes (h.1, h.2, h.3) in
-    (c.loop.invariant.0, c.loop.invariant.1, c.loop.invariant.2, c.loop.invariant.3, c.loop.invariant.4, c.pop.ensures.same_queues ∙ c.loop.invariant.5, c.loop.invariant.6, c.loop.invariant.7, (h.0 ++ (popped.0, unmarked c.in-Some-pop.item) ∷ [], kept.0, kept.1, kept.2))
+    let item = c.in-Some-pop.item in
+    let none = sym c.is_taken.ensures ∙ c.if-not-is_taken.true in
+    let kept = kept_skipping g.RateLimits.Limiter.asks c.args.turns.now.limiter _ popped.0 item (settings c.args.turns.now.shard) c.loop.receiver.ends c.pop.new.self.ends c.args.turns.now.tally c.loop.turns.shard c.loop.turns.sender.items c.loop.turns.tally c.loop.turns.limiter (taken_by h.0) none popped.1.takes h.2 in
+    (inv.0, inv.1, inv.2, inv.3, inv.4, c.pop.ensures.same_queues ∙ inv.5, inv.6, inv.7, (alone (popped.0, unmarked item) ∷ h.0, (no_tick item none, h.1), kept))
 
-pub returns-then-turn-clause-takes : goal.returns-then-turn-clause-takes
-returns-then-turn-clause-takes g c =
-    let h = c.loop.invariant.8 in
+pub take_item-requires : goal.take_item-requires
+take_item-requires g c = record {
+  popped = omega (arith, c.in-Some-pop.ensures.first.1.next);
+  nothing_due = c.loop.invariant.0;
+  running = c.loop.invariant.1;
+  ids = sym c.is_taken.ensures ∙ c.if-not-is_taken.false;
+  nodes = c.loop.invariant.6;
+}
+
+pub returns-then-take_item-clause-takes : goal.returns-then-take_item-clause-takes
+returns-then-take_item-clause-takes g c =
+    let inv = c.loop.invariant in
+    let h = inv.8 in
+    let A = g.RateLimits.Limiter.asks in
+    let n = g.QueueRoom.Room.capacity in
+    let s = settings c.args.turns.now.shard in
+    let first = c.args.turns.now.limiter in
+    let before = c.args.turns.now.tally in
     let popped = c.in-Some-pop.ensures.first in
-    let t = c.turn.ensures.takes c.args.turns.now.limiter c.args.turns.now.tally _ h.3 in
-    let kept = kept_taking g.RateLimits.Limiter.asks c.args.turns.now.limiter _ popped.0 c.in-Some-pop.item (settings c.args.turns.now.shard) c.loop.receiver.ends c.pop.new.self.ends c.args.turns.now.tally c.turn.new.self.shard c.turn.new.self.sender.items c.turn.new.self.tally c.turn.new.self.limiter h.0
-    (c.turn.ensures.settings ∙ c.loop.invariant.2) (sym c.is_taken.ensures ∙ c.if-not-is_taken.false) popped.1.takes h.1 h.2 t in
-    (h.0 ++ (popped.0, t.taken) ∷ [], kept.0, kept.1, kept.2)
+    let item = c.in-Some-pop.item in
+    let ends = c.pop.new.self.ends in
+    let waits = popping A first n s before popped.0 item c.loop.receiver.ends ends c.loop.turns.shard c.loop.turns.sender.items c.loop.turns.tally c.loop.turns.limiter (taken_by h.0) popped.1.takes h.2 in
+    let r = c.take_item.ensures.takes first before (taken_by h.0) popped.0 popped.1.next (subst (λ z. HoldsBack A first z ends before c.loop.turns.shard c.loop.turns.sender.items c.loop.turns.tally c.loop.turns.limiter (taken_by h.0) popped.0 item) (sym inv.2) waits) in
+    let round = subst (λ (m : ℕ). IsRound n m s.senders (taken_by h.0) r.0) (same_count ends c.args.receiver.now.ends (c.pop.ensures.same_queues ∙ inv.5)) (subst (λ (z : Settings). IsRound n (length ends) z.senders (taken_by h.0) r.0) inv.2 r.1) in
+    let taken = subst (λ z. HasTaken A first z c.take_item.new.receiver.ends before c.take_item.new.turns.shard c.take_item.new.turns.sender.items c.take_item.new.turns.tally c.take_item.new.turns.limiter (taken_by (r.0 ∷ h.0))) inv.2 r.2 in
+    let same : length c.args.receiver.now.ends ≡ length c.take_item.new.receiver.ends = same_count c.args.receiver.now.ends c.take_item.new.receiver.ends (sym (c.take_item.ensures.same_queues ∙ c.pop.ensures.same_queues ∙ inv.5)) in (
+      taken_by (r.0 ∷ h.0),
+      record { rounds = r.0 ∷ h.0; taken = refl; each = subst (λ (m : ℕ). AreRounds n m s.senders (r.0 ∷ h.0)) same (round, h.1) },
+      taken,
+    )
 
 pub loop-preserved : goal.loop-preserved
 loop-preserved g c =
-    let h = c.loop.invariant.8 in
+    let inv = c.loop.invariant in
+    let h = inv.8 in
+    let A = g.RateLimits.Limiter.asks in
+    let n = g.QueueRoom.Room.capacity in
+    let s = settings c.args.turns.now.shard in
+    let first = c.args.turns.now.limiter in
+    let before = c.args.turns.now.tally in
     let popped = c.in-Some-pop.ensures.first in
-    let t = c.turn.ensures.takes c.args.turns.now.limiter c.args.turns.now.tally _ h.3 in
-    let kept = kept_taking g.RateLimits.Limiter.asks c.args.turns.now.limiter _ popped.0 c.in-Some-pop.item (settings c.args.turns.now.shard) c.loop.receiver.ends c.pop.new.self.ends c.args.turns.now.tally c.turn.new.self.shard c.turn.new.self.sender.items c.turn.new.self.tally c.turn.new.self.limiter h.0
-    (c.turn.ensures.settings ∙ c.loop.invariant.2) (sym c.is_taken.ensures ∙ c.if-not-is_taken.false) popped.1.takes h.1 h.2 t in
-    (c.turn.ensures.nothing_due, sym c.turn.ensures.finished ∙ c.if-turn.false, c.turn.ensures.settings ∙ c.loop.invariant.2, c.turn.ensures.same.0 ∙ c.loop.invariant.3, c.turn.ensures.same.1 ∙ c.loop.invariant.4, c.pop.ensures.same_queues ∙ c.loop.invariant.5, c.turn.ensures.nodes, λ node. c.turn.ensures.keeps node ∙ c.loop.invariant.7 node, (h.0 ++ (popped.0, t.taken) ∷ [], kept.0, kept.1, kept.2))
+    let item = c.in-Some-pop.item in
+    let ends = c.pop.new.self.ends in
+    let waits = popping A first n s before popped.0 item c.loop.receiver.ends ends c.loop.turns.shard c.loop.turns.sender.items c.loop.turns.tally c.loop.turns.limiter (taken_by h.0) popped.1.takes h.2 in
+    let r = c.take_item.ensures.takes first before (taken_by h.0) popped.0 popped.1.next (subst (λ z. HoldsBack A first z ends before c.loop.turns.shard c.loop.turns.sender.items c.loop.turns.tally c.loop.turns.limiter (taken_by h.0) popped.0 item) (sym inv.2) waits) in
+    let round = subst (λ (m : ℕ). IsRound n m s.senders (taken_by h.0) r.0) (same_count ends c.args.receiver.now.ends (c.pop.ensures.same_queues ∙ inv.5)) (subst (λ (z : Settings). IsRound n (length ends) z.senders (taken_by h.0) r.0) inv.2 r.1) in
+    let taken = subst (λ z. HasTaken A first z c.take_item.new.receiver.ends before c.take_item.new.turns.shard c.take_item.new.turns.sender.items c.take_item.new.turns.tally c.take_item.new.turns.limiter (taken_by (r.0 ∷ h.0))) inv.2 r.2 in
+    let told = c.take_item.ensures in
+    (told.nothing_due, sym told.finished ∙ c.if-take_item.false, told.settings ∙ inv.2, told.same.0 ∙ inv.3, told.same.1 ∙ inv.4, told.same_queues ∙ c.pop.ensures.same_queues ∙ inv.5, told.nodes, λ node. told.keeps node ∙ inv.7 node, (r.0 ∷ h.0, (round, h.1), taken))

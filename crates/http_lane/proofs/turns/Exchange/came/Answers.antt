@@ -1,7 +1,7 @@
 use Rattle.std.proofs.Common.{◌∙◌, refl, subst, sym, [], None, Some, inl, inr}
 use Rattle.http_lane.specs.declared.answer.ServeEnd.TheVariants.{NoMemory}
 use Rattle.http_lane.specs.Intake.{Submits, intake}
-use Rattle.http_lane.specs.Connection.{grown, Settles}
+use Rattle.http_lane.specs.Connection.{grown, in_head, Settles}
 use Rattle.http_lane.specs.Turns.{waiting, came, unkept, since_after, AwaitsBy}
 use Rattle.http_lane.specs.Requests.{Awaits}
 use Rattle.http_lane.proofs.EventLemmas.{does_none}
@@ -60,7 +60,7 @@ returns-then-is_between-clause-spare g c =
     let awaits = s.3 c.in_default-end.is in
     let packed = still_packed c.args.arrived.allowed w.reading c.args.arrived.piece.now s.0 s.1 (awaits_packed c.args.arrived.allowed Awaits c.args.self.now.engine w.reading at) (subst (λ end. Settles (grown w.reading c.args.arrived.piece.now) s.0 end s.1) c.in_default-end.is s.2) in
     let rests = sym (c.is_between-is_between.ensures s.1 awaits) ∙ c.if-is_between.true in
-    subst (λ r. Awaits c.come-end.new.engine r) (between_head c.args.arrived.allowed s.1 rests packed) awaits
+    c.kept.ensures (in_head c.args.arrived.allowed []) (subst (λ r. Awaits c.come-end.new.engine r) (between_head c.args.arrived.allowed s.1 rests packed) awaits)
 
 pub returns-clause-turn : goal.returns-clause-turn
 returns-clause-turn g c = λ w at since.

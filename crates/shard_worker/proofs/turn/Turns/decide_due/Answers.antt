@@ -1,6 +1,7 @@
 -- What is due is decided, one after the other.
 -- For the clauses of `Turns::decide_due`.
 use Rattle.std.proofs.Common.{◌∷◌, refl, ap, ◌∙◌}
+use Rattle.std.specs.List.{list_all}
 use Rattle.journal_theory.specs.Journal.{Journal}
 use Rattle.shard_core.specs.Taking.{dealt_after}
 use Rattle.shard_core.proofs.Deciding.{without_decider}
@@ -32,7 +33,8 @@ returns-then-not-settle_decided g c =
                 (told.all_dealt none P now.0 now.2.stands) (told.answered none P now.0 now.2.stands) here,
           );
       nothing_due = told.nothing none;
-      finished = told.finished ∙ inv.0;
+      finished = ap (λ ends. list_all (λ b. b) ends) (told.ends ∙ inv.0);
+      ends = told.ends ∙ inv.0;
       settings = told.settings ∙ inv.1;
       nodes = knows_kept (g.L.Limiter.has_node t) (g.L.Limiter.has_node u) c.loop.self.shard.policies c.decide_with_decider-decided.new.self.policies told.keeps told.policies inv.4;
       keeps = λ node. told.keeps node ∙ inv.5 node;
@@ -51,7 +53,7 @@ loop-preserved g c =
     let t = c.loop.self.limiter in
     let u = c.decide_with_decider-decided.new.limiter in
     let decides = without_decider A c.loop.self.shard c.decide_with_decider-decided.new.self c.decide_with_decider-decided.result.0 c.decide_with_decider-decided.result.1 t u told.decides in (
-      told.finished ∙ inv.0,
+      told.ends ∙ inv.0,
       told.settings ∙ inv.1,
       inv.2,
       ap (λ x. x.queue) settled.shipped ∙ inv.3,

@@ -1,0 +1,213 @@
+//! The thread that looks at a run, and says what begins, what is over, and what went wrong.
+use crate::charge::Charge;
+use crate::event_writer::EventWriter;
+use crate::steady_clock::SteadyClock;
+use crate::stop_mark::Closer;
+use crate::wall_clock::WallClock;
+use drop_ledger::Count;
+use event_log::{
+    AwayTurn, FieldValue, Level, LogField, Spell, SpellTurn, away_after, jump_of, spell_after,
+};
+use http_lane::Clock as Moments;
+use span_ids::Reason;
+use std::alloc::Global;
+use std::io::Write;
+use std::sync::{Arc, Wait};
+use std::thread::Threads;
+use std::time::{Clock, Duration};
+use std::{io, thread};
+
+/// So long lies between two looks, in milliseconds.
+const PAUSE: u64 = 500;
+
+/// What may begin and be over again: what is said at its beginning, at its end, and of what it tells the number.
+const COMINGS: [(&str, &str, &str); 4] = [
+    ("queue_full", "queue_has_room", "spans"),
+    ("memory_refused", "memory_given", "spans"),
+    ("traces_evicted", "no_trace_evicted", "spans"),
+    ("requests_refused", "requests_taken", "answers_503"),
+];
+
+/// What was known at the last look.
+#[derive(Clone, Copy)]
+struct Known {
+    numbers: [u64; 4],
+    spells: [Spell; 4],
+    taken: u64,
+    unanswered: u64,
+    away_since: Option<u64>,
+    is_closing: bool,
+    is_down: bool,
+}
+
+impl Known {
+    /// Nothing has happened.
+    fn new() -> Self {
+        Known {
+            numbers: [0; 4],
+            spells: [Spell::new(); 4],
+            taken: 0,
+            unanswered: 0,
+            away_since: None,
+            is_closing: false,
+            is_down: false,
+        }
+    }
+}
+
+/// Starts a thread that looks twice a second at what a collector shares, and says what happened. It ends with the
+/// program.
+pub fn start_log_watch<
+    W: Write + Send + Drop + 'static,
+    R: Threads + Wait + Clock + Copy + Send + 'static,
+>(rt: &R, alloc: Global, events: EventWriter<W>, charge: Arc<Charge, Global>) -> io::Result<()> {
+    let own = *rt;
+    let _runs_on = thread::spawn(rt, move || watch(&own, alloc, events, &charge))?;
+    Ok(())
+}
+
+/// Looks again and again.
+fn watch<W: Write + Drop, R: Wait + Clock>(
+    rt: &R,
+    alloc: Global,
+    events: EventWriter<W>,
+    charge: &Charge,
+) {
+    let mut events = events;
+    let mut known = Known::new();
+    let mut steady = SteadyClock::new(rt);
+    for _ in rt.forever() {
+        thread::sleep(rt, Duration::from_millis(PAUSE));
+        let now = steady.now();
+        let wall = WallClock::new(rt).now();
+        if let Some(apart) = jump_of(wall, now) {
+            say_jump(rt, alloc, &mut events, apart, wall);
+            steady = SteadyClock::new(rt);
+        }
+        look_at_numbers(rt, alloc, &mut events, charge, &mut known, now);
+        look_at_backend(rt, alloc, &mut events, charge, &mut known, now);
+        look_at_end(rt, alloc, &mut events, charge, &mut known);
+    }
+}
+
+/// Says that the wall clock was set.
+fn say_jump<W: Write + Drop, R: Clock>(
+    rt: &R,
+    alloc: Global,
+    events: &mut EventWriter<W>,
+    apart: u64,
+    wall: u64,
+) {
+    let fields = [number("by_ms", apart), number("clock_ms", wall)];
+    events.say(rt, alloc, Level::Warning, "clock_jumped", &fields);
+}
+
+fn number(name: &'static str, number: u64) -> LogField<'static> {
+    LogField {
+        name,
+        value: FieldValue::Number(number),
+    }
+}
+
+/// The numbers that are looked at: spans that found a queue full, spans without memory, spans of evicted traces, and
+/// answers 503.
+fn numbers_of(charge: &Charge) -> [u64; 4] {
+    let report = charge.board.report();
+    [
+        report.number(Count::Dropped(Reason::QueueFull)),
+        report.number(Count::Dropped(Reason::NoMemory)),
+        report.number(Count::Dropped(Reason::Evicted)),
+        charge.loads.traffic.answered(503),
+    ]
+}
+
+/// Says of which numbers the growth begins, and of which it is over.
+fn look_at_numbers<W: Write + Drop, R: Clock>(
+    rt: &R,
+    alloc: Global,
+    events: &mut EventWriter<W>,
+    charge: &Charge,
+    known: &mut Known,
+    now: u64,
+) {
+    let numbers = numbers_of(charge);
+    for at in 0..4 {
+        let grows = known.numbers[at] < numbers[at];
+        known.numbers[at] = numbers[at];
+        let (spell, turn) = spell_after(known.spells[at], grows, now);
+        known.spells[at] = spell;
+        let (begins, ends, name) = COMINGS[at];
+        let fields = [number(name, numbers[at])];
+        match turn {
+            Some(SpellTurn::Begins) => events.say(rt, alloc, Level::Warning, begins, &fields),
+            Some(SpellTurn::Ends) => events.say(rt, alloc, Level::Info, ends, &fields),
+            None => {}
+        }
+    }
+}
+
+/// Says that the backend doesn't answer, and that it takes again.
+fn look_at_backend<W: Write + Drop, R: Clock>(
+    rt: &R,
+    alloc: Global,
+    events: &mut EventWriter<W>,
+    charge: &Charge,
+    known: &mut Known,
+    now: u64,
+) {
+    let (taken, _, unanswered) = charge.board.attempted();
+    let takes = known.taken < taken;
+    let fails = known.unanswered < unanswered;
+    known.taken = taken;
+    known.unanswered = unanswered;
+    let (away_since, turn) = away_after(known.away_since, takes, fails, now);
+    known.away_since = away_since;
+    match turn {
+        Some(AwayTurn::Away) => {
+            let fields = [number("unanswered", unanswered)];
+            events.say(rt, alloc, Level::Warning, "backend_away", &fields);
+        }
+        Some(AwayTurn::Back(passed)) => {
+            let fields = [number("away_ms", passed)];
+            events.say(rt, alloc, Level::Info, "backend_back", &fields);
+        }
+        None => {}
+    }
+}
+
+/// Says that the output failed, and that the collector is closing.
+fn look_at_end<W: Write + Drop, R: Clock>(
+    rt: &R,
+    alloc: Global,
+    events: &mut EventWriter<W>,
+    charge: &Charge,
+    known: &mut Known,
+) {
+    if charge.board.is_down() && !known.is_down {
+        known.is_down = true;
+        events.say(rt, alloc, Level::Error, "output_failed", &[]);
+    }
+    if known.is_closing {
+        return;
+    }
+    if let Some(closer) = charge.stop.closer() {
+        known.is_closing = true;
+        say_closing(rt, alloc, events, charge, closer);
+    }
+}
+
+/// Says who asked, and how many spans wait.
+fn say_closing<W: Write + Drop, R: Clock>(
+    rt: &R,
+    alloc: Global,
+    events: &mut EventWriter<W>,
+    charge: &Charge,
+    closer: Closer,
+) {
+    let by = LogField {
+        name: "by",
+        value: FieldValue::Text(closer.name()),
+    };
+    let fields = [by, number("spans_waiting", charge.board.waiting())];
+    events.say(rt, alloc, Level::Info, "closing", &fields);
+}

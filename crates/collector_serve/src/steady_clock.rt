@@ -1,0 +1,48 @@
+//! A clock that goes on by the time that passes.
+ghost use Rattle.std.specs.Prelude.{◌≡◌, ◌+◌, ◌-◌, ◌/◌, ◌^◌, min};
+ghost use Rattle.std.specs.Duration.{as_nanos};
+ghost use Rattle.collector_serve.specs.Moments.{moment_after};
+
+use crate::wall_clock::WallClock;
+use http_lane::Clock as Moments;
+use std::time::{Clock, Duration, Instant};
+
+/// The wall clock as it was at the start, and from then on the time that has passed, whatever becomes of the wall clock
+/// (CLOCK_MONOTONIC): milliseconds since 1970. Where no time can be read that passes, it is the wall clock.
+#[derive(Drop)]
+pub struct SteadyClock<'r, R: Clock> {
+    rt: &'r R,
+    start: u64,
+    began: Option<Instant>,
+}
+
+impl<'r, R: Clock> SteadyClock<'r, R> {
+    /// The clock that starts now.
+    pub fn new(rt: &'r R) -> Self {
+        SteadyClock {
+            rt,
+            start: WallClock::new(rt).now(),
+            began: Instant::now(rt).ok(),
+        }
+    }
+}
+
+impl<'r, R: Clock> Moments for SteadyClock<'r, R> {
+    fn now(&self) -> u64 {
+        let Some(began) = self.began else {
+            return WallClock::new(self.rt).now();
+        };
+        match began.elapsed(self.rt) {
+            Ok(passed) => moment_after(self.start, passed),
+            Err(_) => self.start,
+        }
+    }
+}
+
+/// The moment at which so much time has passed since the start, at most 2^64-1.
+fn moment_after(start: u64, passed: Duration) -> u64
+    ensures { result ≡ moment_after start (as_nanos passed) }
+{
+    let milliseconds = u64::try_from(passed.as_millis()).unwrap_or(u64::MAX);
+    start.saturating_add(milliseconds)
+}

@@ -1,0 +1,7 @@
+use Rattle.std.proofs.Common.{◌≡◌, ◌++◌, drop, string_bytes}
+use Rattle.event_log.specs.Lines.{text_fields}
+use Rattle.event_log.proofs.line.text_fields.Given as goal
+
+-- the fields so far, and those that are left
+abbrev pub invariant-loop-field : goal.invariant-loop-field
+invariant-loop-field l = string_bytes l.text ++ text_fields (drop l.field-index l.fields) ≡ text_fields l.fields

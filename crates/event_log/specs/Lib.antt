@@ -1,0 +1,4 @@
+pub mod Lines
+pub mod Spells
+pub mod Jumps
+pub mod Away

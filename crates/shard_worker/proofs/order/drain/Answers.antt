@@ -1,0 +1,96 @@
+-- What waits in one queue is taken while an item of another is held back.
+-- For the clauses of `drain`.
+use Rattle.std.proofs.Common.{◌∙◌, ◌++◌, ◌∷◌, List, [], refl, sym, ap, subst, append-nil, append_assoc, inr, arith}
+use Rattle.std.specs.List.{list_all}
+use Rattle.otlp_types.specs.declared.arrival.Item.{Item}
+use Rattle.lane_queue.specs.Ends.{EndState, ReceiverState}
+use Rattle.journal_theory.specs.Journal.{Entry}
+use Rattle.shard_core.specs.Held.{settings}
+use Rattle.shard_worker.specs.Turns.{HoldsBack}
+use Rattle.shard_worker.proofs.Journals.{unmarked}
+use Rattle.shard_worker.proofs.HeldBack.{of_none, of_one, one_longer, holding_taking, holding_skipping, behind_empty}
+use Rattle.shard_worker.proofs.order.drain.Goals as goal
+
+pub loop-init : goal.loop-init
+loop-init g c = (
+  c.requires.nothing_due,
+  c.requires.running,
+  refl,
+  refl,
+  refl,
+  refl,
+  c.requires.nodes,
+  λ node. refl,
+  λ first before earlier at held apart holds. (
+    [],
+    of_none c.args.place,
+    refl,
+    subst (λ l. HoldsBack g.RateLimits.Limiter.asks first (settings c.args.turns.now.shard) c.args.receiver.now.ends before c.args.turns.now.shard c.args.turns.now.sender.items c.args.turns.now.tally c.args.turns.now.limiter l at held) (sym (append-nil earlier)) holds,
+  ),
+)
+
+pub returns-in_default-clause-takes : goal.returns-in_default-clause-takes
+returns-in_default-clause-takes g c = λ first before earlier at held apart holds.
+    let h = c.loop.invariant.8 first before earlier at held apart holds in
+    let empty = c.in_default.ensures.empty in
+    let back = subst (λ (l : List (EndState Item)). HoldsBack g.RateLimits.Limiter.asks first (settings c.args.turns.now.shard) l before c.loop.turns.shard c.loop.turns.sender.items c.loop.turns.tally c.loop.turns.limiter (earlier ++ h.0) at held) (sym (ap (λ (r : ReceiverState Item). r.ends) empty.0)) h.3 in
+    (h.0, h.1, (behind_empty g.QueueRoom.Room.capacity c.args.place at held c.loop.receiver.ends earlier h.0 apart h.3.0 empty.1, back))
+
+pub loop-preserved-then-not-is_taken : goal.loop-preserved-then-not-is_taken
+loop-preserved-then-not-is_taken g c =
+    let inv = c.loop.invariant in (
+      inv.0,
+      inv.1,
+      inv.2,
+      inv.3,
+      inv.4,
+      c.pop_at.ensures.same_queues ∙ inv.5,
+      inv.6,
+      inv.7,
+      λ first before earlier at held apart holds.
+          let h = inv.8 first before earlier at held apart holds in
+          let item = c.in-Some.item in
+          let e : Entry = unmarked item in
+          let more = holding_skipping g.RateLimits.Limiter.asks first g.QueueRoom.Room.capacity (settings c.args.turns.now.shard) before c.args.place at item held c.loop.receiver.ends c.pop_at.new.self.ends c.loop.turns.shard c.loop.turns.sender.items c.loop.turns.tally c.loop.turns.limiter (earlier ++ h.0)
+          apart (sym c.is_taken.ensures ∙ c.if-not-is_taken.true) c.in-Some.ensures.first h.3 in (
+            h.0 ++ (c.args.place, e) ∷ [],
+            of_one c.args.place h.0 e h.1,
+            one_longer c.args.place c.loop.counter h.0 e h.2,
+            subst (λ l. HoldsBack g.RateLimits.Limiter.asks first (settings c.args.turns.now.shard) c.pop_at.new.self.ends before c.loop.turns.shard c.loop.turns.sender.items c.loop.turns.tally c.loop.turns.limiter l at held) (append_assoc earlier h.0 ((c.args.place, e) ∷ [])) more,
+          ),
+    )
+
+pub returns-then-finishes_with-clause-takes : goal.returns-then-finishes_with-clause-takes
+returns-then-finishes_with-clause-takes g c = λ first before earlier at held apart holds.
+    let h = c.loop.invariant.8 first before earlier at held apart holds in
+    (h.0, h.1, (c.loop.receiver.ends, c.in-Some.ensures.first, h.3))
+
+pub loop-preserved : goal.loop-preserved
+loop-preserved g c =
+    let inv = c.loop.invariant in
+    let told = c.turn.ensures in (
+      told.nothing_due,
+      ap (λ ends. list_all (λ b. b) ends) told.ends ∙ sym c.finishes_with.ensures ∙ c.if-finishes_with.false,
+      told.settings ∙ inv.2,
+      told.same.0 ∙ inv.3,
+      told.same.1 ∙ inv.4,
+      c.pop_at.ensures.same_queues ∙ inv.5,
+      told.nodes,
+      λ node. told.keeps node ∙ inv.7 node,
+      λ first before earlier at held apart holds.
+          let h = inv.8 first before earlier at held apart holds in
+          let item = c.in-Some.item in
+          let t = told.takes first before _ h.3.2 in
+          let more = holding_taking g.RateLimits.Limiter.asks first g.QueueRoom.Room.capacity (settings c.args.turns.now.shard) before c.args.place at item held c.loop.receiver.ends c.pop_at.new.self.ends c.loop.turns.shard c.turn.new.self.shard c.loop.turns.sender.items c.turn.new.self.sender.items c.loop.turns.tally c.turn.new.self.tally c.loop.turns.limiter c.turn.new.self.limiter (earlier ++ h.0)
+          apart (told.settings ∙ inv.2) (sym c.is_taken.ensures ∙ c.if-not-is_taken.false) c.in-Some.ensures.first h.3 t in (
+            h.0 ++ (c.args.place, t.taken) ∷ [],
+            of_one c.args.place h.0 t.taken h.1,
+            one_longer c.args.place c.loop.counter h.0 t.taken h.2,
+            subst (λ l. HoldsBack g.RateLimits.Limiter.asks first (settings c.args.turns.now.shard) c.pop_at.new.self.ends before c.turn.new.self.shard c.turn.new.self.sender.items c.turn.new.self.tally c.turn.new.self.limiter l at held) (append_assoc earlier h.0 ((c.args.place, t.taken) ∷ [])) more,
+          ),
+    )
+
+pub returns-clause-takes : goal.returns-clause-takes
+returns-clause-takes g c = λ first before earlier at held apart holds.
+    let h = c.loop.invariant.8 first before earlier at held apart holds in
+    (h.0, h.1, (inr (omega (arith, h.2, c.capacity-end.ensures, c.loop-test.false)), h.3))

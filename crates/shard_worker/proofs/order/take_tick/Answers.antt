@@ -1,0 +1,117 @@
+-- A tick is taken behind what waited in the other queues.
+-- For the clauses of `take_tick`.
+use Rattle.std.proofs.Common.{◌≡◌, ◌-◌, ◌∙◌, ◌++◌, ◌∷◌, [], true, refl, sym, ap, subst, append-nil, append_assoc, arith}
+use Rattle.std.specs.List.{list_all}
+use Rattle.otlp_types.specs.declared.arrival.Item.TheVariants.{Tick}
+use Rattle.shard_core.specs.Held.{settings, is_finished}
+use Rattle.shard_core.specs.Taking.{ends_after}
+use Rattle.shard_worker.specs.Work.{behind, ending, journal_of}
+use Rattle.shard_worker.specs.Turns.{HasTaken, HoldsBack}
+use Rattle.shard_worker.proofs.Journals.{have_all_ended}
+use Rattle.shard_worker.proofs.HeldBack.{popping, releasing, regroup_two, behind_next, behind_own}
+use Rattle.shard_worker.proofs.order.take_tick.Goals as goal
+
+pub loop-other-init : goal.loop-other-init
+loop-other-init g c = (
+  c.requires.nothing_due,
+  c.requires.running,
+  refl,
+  refl,
+  refl,
+  refl,
+  c.requires.nodes,
+  λ node. refl,
+  λ first before earlier holds. (
+    [],
+    λ k low apart. absurd (omega (arith, low)),
+    subst (λ l. HoldsBack g.RateLimits.Limiter.asks first (settings c.args.turns.now.shard) c.args.receiver.now.ends before c.args.turns.now.shard c.args.turns.now.sender.items c.args.turns.now.tally c.args.turns.now.limiter l (c.next_place-place.result - 1) (Tick c.args.moment)) (sym (append-nil earlier)) holds,
+  ),
+)
+
+pub loop-other-preserved-then-other-place : goal.loop-other-preserved-then-other-place
+loop-other-preserved-then-other-place g c =
+    let inv = c.loop-other.invariant in (
+      inv.0,
+      inv.1,
+      inv.2,
+      inv.3,
+      inv.4,
+      inv.5,
+      inv.6,
+      inv.7,
+      λ first before earlier holds.
+          let h = inv.8 first before earlier holds in
+          (h.0, behind_own g.QueueRoom.Room.capacity c.loop-other.other (c.next_place-place.result - 1) earlier h.0 c.if-other-place.true h.1, h.2),
+    )
+
+pub loop-other-preserved : goal.loop-other-preserved
+loop-other-preserved g c =
+    let inv = c.loop-other.invariant in
+    let told = c.in_default.ensures in
+    let A = g.RateLimits.Limiter.asks in
+    let place = c.next_place-place.result - 1 in (
+      told.nothing_due,
+      told.running,
+      told.settings ∙ inv.2,
+      told.same.0 ∙ inv.3,
+      told.same.1 ∙ inv.4,
+      told.same_queues ∙ inv.5,
+      told.nodes,
+      λ node. told.keeps node ∙ inv.7 node,
+      λ first before earlier holds.
+          let h = inv.8 first before earlier holds in
+          let d = told.takes first before (earlier ++ h.0) place (Tick c.args.moment) (λ e. c.if-other-place.false (sym e))
+          (subst (λ s. HoldsBack A first s c.loop-other.receiver.ends before c.loop-other.turns.shard c.loop-other.turns.sender.items c.loop-other.turns.tally c.loop-other.turns.limiter (earlier ++ h.0) place (Tick c.args.moment)) (sym inv.2) h.2) in (
+            h.0 ++ d.0,
+            behind_next g.QueueRoom.Room.capacity c.loop-other.other place earlier h.0 d.0 d.1 h.1 d.2.0,
+            subst (λ l. HoldsBack A first (settings c.args.turns.now.shard) c.drain.new.receiver.ends before c.drain.new.turns.shard c.drain.new.turns.sender.items c.drain.new.turns.tally c.drain.new.turns.limiter l place (Tick c.args.moment)) (append_assoc earlier h.0 d.0)
+                (subst (λ s. HoldsBack A first s c.drain.new.receiver.ends before c.drain.new.turns.shard c.drain.new.turns.sender.items c.drain.new.turns.tally c.drain.new.turns.limiter ((earlier ++ h.0) ++ d.0) place (Tick c.args.moment)) inv.2 d.2.1),
+          ),
+    )
+
+pub returns-in-Some-clause-takes : goal.returns-in-Some-clause-takes
+returns-in-Some-clause-takes g c = λ first before earlier at next holds.
+    let inv = c.loop-other.invariant in
+    let told = c.in-Some.ensures in
+    let A = g.RateLimits.Limiter.asks in
+    let n = g.QueueRoom.Room.capacity in
+    let s = settings c.args.turns.now.shard in
+    let place = c.next_place-place.result - 1 in
+    let same : at ≡ place = omega (arith, next, c.next_place-place.ensures) in
+    let h = inv.8 first before earlier (subst (λ p. HoldsBack A first s c.args.receiver.now.ends before c.args.turns.now.shard c.args.turns.now.sender.items c.args.turns.now.tally c.args.turns.now.limiter earlier p (Tick c.args.moment)) same holds) in
+    let d = told.takes first before (earlier ++ h.0) place (Tick c.args.moment) (λ e. c.if-other-place.false (sym e))
+    (subst (λ z. HoldsBack A first z c.loop-other.receiver.ends before c.loop-other.turns.shard c.loop-other.turns.sender.items c.loop-other.turns.tally c.loop-other.turns.limiter (earlier ++ h.0) place (Tick c.args.moment)) (sym inv.2) h.2) in
+    let popped = (earlier ++ h.0) ++ d.0 in
+    let ends = d.2.0 in
+    let waits = subst (λ z. HoldsBack A first z ends before c.drain.new.turns.shard c.drain.new.turns.sender.items c.drain.new.turns.tally c.drain.new.turns.limiter popped place (Tick c.args.moment)) inv.2 d.2.2 in
+    let t = c.turn.ensures.takes first before (journal_of popped) waits.2 in
+    let is : settings c.turn.new.self.shard ≡ s = c.turn.ensures.settings ∙ told.settings ∙ inv.2 in
+    let ticked = releasing A first n s before place (Tick c.args.moment) ends c.drain.new.turns.shard c.turn.new.self.shard c.drain.new.turns.sender.items c.turn.new.self.sender.items c.drain.new.turns.tally c.turn.new.self.tally c.drain.new.turns.limiter c.turn.new.self.limiter popped is refl waits t in
+    let last = popping A first n s before c.loop-other.other c.in-Some.last ends c.drain.new.receiver.ends c.turn.new.self.shard c.turn.new.self.sender.items c.turn.new.self.tally c.turn.new.self.limiter (popped ++ (place, t.taken) ∷ []) d.2.1 ticked in
+    let u = c.turn-in-Some.ensures.takes first before (journal_of (popped ++ (place, t.taken) ∷ [])) last.2 in
+    let is' : settings c.turn-in-Some.new.self.shard ≡ s = c.turn-in-Some.ensures.settings ∙ is in
+    let taken = releasing A first n s before c.loop-other.other c.in-Some.last c.drain.new.receiver.ends c.turn.new.self.shard c.turn-in-Some.new.self.shard c.turn.new.self.sender.items c.turn-in-Some.new.self.sender.items c.turn.new.self.tally c.turn-in-Some.new.self.tally c.turn.new.self.limiter c.turn-in-Some.new.self.limiter (popped ++ (place, t.taken) ∷ []) is' told.last.0 last u in
+    let all = regroup_two earlier h.0 d.0 (place, t.taken) (c.loop-other.other, u.taken) in
+    let done = subst (λ l. HasTaken A first s c.drain.new.receiver.ends before c.turn-in-Some.new.self.shard c.turn-in-Some.new.self.sender.items c.turn-in-Some.new.self.tally c.turn-in-Some.new.self.limiter l) all taken in
+    let finished : is_finished c.turn-in-Some.new.self.shard ≡ true =
+    ap (λ e. list_all (λ b. b) e) (c.turn-in-Some.ensures.ends ∙ ap (λ e. ends_after c.in-Some.last e) c.turn.ensures.ends) ∙ told.last.1 in (
+      ending (h.0 ++ d.0) (place, t.taken) (c.loop-other.other, u.taken),
+      have_all_ended s c.turn-in-Some.new.self.shard (journal_of (earlier ++ ((h.0 ++ d.0) ++ (place, t.taken) ∷ (c.loop-other.other, u.taken) ∷ []))) done.2.dealt is' done.2.at.stands finished,
+      done,
+    )
+
+pub returns-clause-takes : goal.returns-clause-takes
+returns-clause-takes g c = λ first before earlier at next holds.
+    let inv = c.loop-other.invariant in
+    let A = g.RateLimits.Limiter.asks in
+    let n = g.QueueRoom.Room.capacity in
+    let s = settings c.args.turns.now.shard in
+    let place = c.next_place-place.result - 1 in
+    let same : at ≡ place = omega (arith, next, c.next_place-place.ensures) in
+    let h = inv.8 first before earlier (subst (λ p. HoldsBack A first s c.args.receiver.now.ends before c.args.turns.now.shard c.args.turns.now.sender.items c.args.turns.now.tally c.args.turns.now.limiter earlier p (Tick c.args.moment)) same holds) in
+    let t = c.turn-2.ensures.takes first before (journal_of (earlier ++ h.0)) h.2.2 in
+    let taken = releasing A first n s before place (Tick c.args.moment) c.loop-other.receiver.ends c.loop-other.turns.shard c.turn-2.new.self.shard c.loop-other.turns.sender.items c.turn-2.new.self.sender.items c.loop-other.turns.tally c.turn-2.new.self.tally c.loop-other.turns.limiter c.turn-2.new.self.limiter (earlier ++ h.0) (c.turn-2.ensures.settings ∙ inv.2) refl h.2 t in (
+      behind h.0 (place, t.taken),
+      λ k within apart. h.1 k (omega (arith, within, c.count-other-end.ensures, c.loop-other-test.false)) apart,
+      subst (λ l. HasTaken A first s c.loop-other.receiver.ends before c.turn-2.new.self.shard c.turn-2.new.self.sender.items c.turn-2.new.self.tally c.turn-2.new.self.limiter l) (append_assoc earlier h.0 ((place, t.taken) ∷ [])) taken,
+    )

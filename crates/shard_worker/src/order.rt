@@ -1,0 +1,167 @@
+//! Items in their order: a tick is taken behind what waited in the other queues when it was popped.
+ghost use Rattle.std.specs.Prelude.{◌≡◌, ◌≢◌, ◌<◌, ◌+◌, ◌++◌, ℕ, List, length, IfSome, MatchOption, true, false};
+ghost use Rattle.std.specs.List.{list_all};
+ghost use Rattle.otlp_types.specs.declared.arrival.Item.{Item};
+ghost use Rattle.lane_queue.specs.Ends.{EndState, queues, TakesAt};
+ghost use Rattle.drop_ledger.specs.Places.{TallyState};
+ghost use Rattle.policy_tree.specs.Tree.{limiters};
+ghost use Rattle.policy_tree.specs.Meaning.{meaning};
+ghost use Rattle.policy_eval.specs.Meaning.{knows};
+ghost use Rattle.journal_theory.specs.Journal.{Entry, has_ids};
+ghost use Rattle.shard_core.specs.Held.{has_due, is_finished, settings};
+ghost use Rattle.shard_core.specs.Taking.{ends_after};
+ghost use Rattle.shard_worker.specs.Work.{Round, taken_in, IsBehind, IsRound};
+ghost use Rattle.shard_worker.specs.Turns.{HasTaken, HoldsBack, IsOf};
+
+use crate::turn::Turns;
+use drop_ledger::Counter;
+use lane_queue::{Gate, Receiver, Room};
+use otlp_types::Item;
+use rate_budget::Limiter;
+use span_ids::Moment;
+use std::sync::Wait;
+use std::time::Clock;
+
+/// Whether a shard takes the item: a span has valid ids.
+pub fn is_taken(item: &Item) -> bool
+    ensures { result ≡ has_ids item.now }
+{
+    match item {
+        Item::Span(arrival) => arrival.rec.span.get().ids.is_some(),
+        Item::Tick(_) | Item::End(_) => true,
+    }
+}
+
+/// Takes the item that was popped last, and says whether every sender has ended. A tick is taken behind what waited in
+/// the other queues when it was popped.
+pub fn take_item<
+    RateLimits: Limiter + Drop,
+    QueueRoom: Room,
+    ExportRoom: Room,
+    Ledger: Counter,
+    Observer: Gate,
+    Runtime: Wait + Clock,
+>(
+    rt: &Runtime,
+    gate: &Observer,
+    turns: &mut Turns<RateLimits, ExportRoom, Ledger>,
+    receiver: &mut Receiver<Item, QueueRoom>,
+    item: Item,
+) -> bool
+    requires popped { 0 < receiver.old.next }
+    requires nothing_due { has_due turns.old.shard ≡ false }
+    requires running { is_finished turns.old.shard ≡ false }
+    requires ids { has_ids item ≡ true }
+    requires nodes { knows (RateLimits.has_node turns.old.limiter) (limiters (meaning turns.old.shard.policies)) ≡ true }
+    ensures takes { (first : _) (before : TallyState) (earlier : List (ℕ × Entry)) (place : ℕ) → receiver.old.next ≡ place + 1
+        → HoldsBack RateLimits.asks first (settings turns.old.shard) receiver.old.ends before turns.old.shard turns.old.sender.items turns.old.tally turns.old.limiter earlier place item
+        → (round : Round) × IsRound QueueRoom.capacity (length receiver.old.ends) (settings turns.old.shard).senders earlier round
+        × HasTaken RateLimits.asks first (settings turns.old.shard) receiver.new.ends before turns.new.shard turns.new.sender.items turns.new.tally turns.new.limiter (earlier ++ taken_in round) }
+    ensures nothing_due { has_due turns.new.shard ≡ false }
+    ensures finished { result ≡ is_finished turns.new.shard }
+    ensures settings { settings turns.new.shard ≡ settings turns.old.shard }
+    ensures nodes { knows (RateLimits.has_node turns.new.limiter) (limiters (meaning turns.new.shard.policies)) ≡ true }
+    ensures keeps { (node : ℕ) → RateLimits.has_node turns.new.limiter node ≡ RateLimits.has_node turns.old.limiter node }
+    ensures same { (turns.new.number ≡ turns.old.number) × (turns.new.sender.queue ≡ turns.old.sender.queue) }
+    ensures same_queues { queues receiver.new.ends ≡ queues receiver.old.ends }
+{
+    match item {
+        Item::Tick(moment) => take_tick(rt, gate, turns, receiver, moment),
+        Item::Span(arrival) => turns.turn(rt, gate, Item::Span(arrival)),
+        Item::End(sender) => turns.turn(rt, gate, Item::End(sender)),
+    }
+}
+
+/// Takes a tick that was popped last behind what waits in the other queues, and says whether every sender has ended:
+/// the item with which they all have is taken behind the tick.
+fn take_tick<
+    RateLimits: Limiter + Drop,
+    QueueRoom: Room,
+    ExportRoom: Room,
+    Ledger: Counter,
+    Observer: Gate,
+    Runtime: Wait + Clock,
+>(
+    rt: &Runtime,
+    gate: &Observer,
+    turns: &mut Turns<RateLimits, ExportRoom, Ledger>,
+    receiver: &mut Receiver<Item, QueueRoom>,
+    moment: Moment,
+) -> bool
+    requires popped { 0 < receiver.old.next }
+    requires nothing_due { has_due turns.old.shard ≡ false }
+    requires running { is_finished turns.old.shard ≡ false }
+    requires nodes { knows (RateLimits.has_node turns.old.limiter) (limiters (meaning turns.old.shard.policies)) ≡ true }
+    ensures takes { (first : _) (before : TallyState) (earlier : List (ℕ × Entry)) (place : ℕ) → receiver.old.next ≡ place + 1
+        → HoldsBack RateLimits.asks first (settings turns.old.shard) receiver.old.ends before turns.old.shard turns.old.sender.items turns.old.tally turns.old.limiter earlier place (Item.Tick moment)
+        → (round : Round) × IsRound QueueRoom.capacity (length receiver.old.ends) (settings turns.old.shard).senders earlier round
+        × HasTaken RateLimits.asks first (settings turns.old.shard) receiver.new.ends before turns.new.shard turns.new.sender.items turns.new.tally turns.new.limiter (earlier ++ taken_in round) }
+    ensures nothing_due { has_due turns.new.shard ≡ false }
+    ensures finished { result ≡ is_finished turns.new.shard }
+    ensures settings { settings turns.new.shard ≡ settings turns.old.shard }
+    ensures nodes { knows (RateLimits.has_node turns.new.limiter) (limiters (meaning turns.new.shard.policies)) ≡ true }
+    ensures keeps { (node : ℕ) → RateLimits.has_node turns.new.limiter node ≡ RateLimits.has_node turns.old.limiter node }
+    ensures same { (turns.new.number ≡ turns.old.number) × (turns.new.sender.queue ≡ turns.old.sender.queue) }
+    ensures same_queues { queues receiver.new.ends ≡ queues receiver.old.ends }
+{
+    let place = receiver.next_place() - 1;
+    for other in 0..receiver.count() {
+        if other == place {
+            continue;
+        }
+        if let Some(last) = drain(rt, gate, turns, receiver, other) {
+            turns.turn(rt, gate, Item::Tick(moment));
+            return turns.turn(rt, gate, last);
+        }
+    }
+    turns.turn(rt, gate, Item::Tick(moment))
+}
+
+/// Takes what waits in one queue, while an item of another one is held back: until it is empty, or as many items as it
+/// may hold. The item with which every sender has ended isn't taken, and comes back.
+fn drain<
+    RateLimits: Limiter + Drop,
+    QueueRoom: Room,
+    ExportRoom: Room,
+    Ledger: Counter,
+    Observer: Gate,
+    Runtime: Wait + Clock,
+>(
+    rt: &Runtime,
+    gate: &Observer,
+    turns: &mut Turns<RateLimits, ExportRoom, Ledger>,
+    receiver: &mut Receiver<Item, QueueRoom>,
+    place: usize,
+) -> Option<Item>
+    requires within { place < length receiver.old.ends }
+    requires nothing_due { has_due turns.old.shard ≡ false }
+    requires running { is_finished turns.old.shard ≡ false }
+    requires nodes { knows (RateLimits.has_node turns.old.limiter) (limiters (meaning turns.old.shard.policies)) ≡ true }
+    ensures takes { (first : _) (before : TallyState) (earlier : List (ℕ × Entry)) (at : ℕ) (held : Item) → at ≢ place
+        → HoldsBack RateLimits.asks first (settings turns.old.shard) receiver.old.ends before turns.old.shard turns.old.sender.items turns.old.tally turns.old.limiter earlier at held
+        → (drained : List (ℕ × Entry)) × IsOf place drained × MatchOption result
+        (IsBehind QueueRoom.capacity earlier drained place × HoldsBack RateLimits.asks first (settings turns.old.shard) receiver.new.ends before turns.new.shard turns.new.sender.items turns.new.tally turns.new.limiter (earlier ++ drained) at held)
+        (λ last. (ends : List (EndState Item)) × TakesAt QueueRoom.capacity place last ends receiver.new.ends × HoldsBack RateLimits.asks first (settings turns.old.shard) ends before turns.new.shard turns.new.sender.items turns.new.tally turns.new.limiter (earlier ++ drained) at held) }
+    ensures last { IfSome result (λ last. (has_ids last ≡ true) × (list_all (λ b. b) (ends_after last turns.new.shard.standing.ends) ≡ true)) }
+    ensures nothing_due { has_due turns.new.shard ≡ false }
+    ensures running { is_finished turns.new.shard ≡ false }
+    ensures settings { settings turns.new.shard ≡ settings turns.old.shard }
+    ensures nodes { knows (RateLimits.has_node turns.new.limiter) (limiters (meaning turns.new.shard.policies)) ≡ true }
+    ensures keeps { (node : ℕ) → RateLimits.has_node turns.new.limiter node ≡ RateLimits.has_node turns.old.limiter node }
+    ensures same { (turns.new.number ≡ turns.old.number) × (turns.new.sender.queue ≡ turns.old.sender.queue) }
+    ensures same_queues { queues receiver.new.ends ≡ queues receiver.old.ends }
+{
+    for _ in 0..receiver.capacity() {
+        let Some(item) = receiver.pop_at(rt, place) else {
+            return None;
+        };
+        if !is_taken(&item) {
+            continue;
+        }
+        if turns.shard.finishes_with(&item) {
+            return Some(item);
+        }
+        turns.turn(rt, gate, item);
+    }
+    None
+}

@@ -1,0 +1,172 @@
+"""Checks of `tsc serve` as it is run: an output that stalls while ticks go on, a wall clock that is set, large batches, and what it says on standard
+error."""
+
+import gzip
+import json
+import os
+import re
+import shutil
+import socket
+import subprocess
+import tempfile
+import threading
+import time
+
+from collector import ALL, ERROR_SPAN, ERRORS, body_of, post, want
+from serve_admin import free_port
+from serve_faults import library_of
+
+LINE = re.compile(r"(\d{4}-\d\d-\d\dT\d\d:\d\d:\d\d(?:\.\d+)?Z) (INFO|WARN|ERROR) (\w+)((?: \w+=(?:\d+|\"[^\"]*\"))*)$")
+
+
+def roots_and_errors(first, count):
+    """A request of so many roots, and behind them of each trace a span with an error."""
+    traces = [f"{first + number + 1:032x}" for number in range(count)]
+    roots = [{"traceId": it, "spanId": it[16:]} for it in traces]
+    errors = [{"traceId": it, "spanId": f"f{it[17:]}", "parentSpanId": it[16:], "status": {"code": 2}} for it in traces]
+    return post(body_of(roots + errors))
+
+
+def ticks_wait_for_spans(start):
+    """Each trace has an error, which came in the request of its root. The output stalls for three seconds, and ticks go on: behind that each span is
+    kept, since a shard takes what its lanes had pushed before it takes a tick."""
+    reader, writer = os.pipe()
+    settings = "decision_wait_ms = 200\ntick_ms = 10\nlanes = 2\nshards = 2\nqueue_capacity = 65536\nexport_capacity = 8\nsend_batch_size = 8\n"
+    collector = start(settings + "num_traces = 1000000\n" + ERRORS, output=writer)
+    os.close(writer)
+    spans, end = 0, time.monotonic() + 3
+    clients = [collector.client() for _ in range(2)]
+    while time.monotonic() < end:
+        for client in clients:
+            client.send(roots_and_errors(spans, 100))
+            want("the answer", client.answer()[::2], (200, "{}"))
+            spans += 200
+        time.sleep(0.02)
+    kept = []
+    reading = threading.Thread(target=lambda: kept.append(open(reader, "rb").read()))
+    reading.start()
+    time.sleep(1)
+    collector.ask(post(b"", "/close"))
+    collector.end()
+    reading.join()
+    report = dict(line.rsplit(" ", 1) for line in kept[0].decode().splitlines()[-9:])
+    want("what was received", int(report["received"]), spans)
+    want("what wasn't sampled, and what came late", (report["dropped 5"], report["dropped 6"]), ("0", "0"))
+    want("what was handed over", int(report["handed"]), spans)
+
+
+def waits_by_time_that_passes(start):
+    """A wall clock that is set back by an hour, and then forward by two, decides nothing late and nothing early; both are said."""
+    with tempfile.TemporaryDirectory() as folder:
+        shift = os.path.join(folder, "shift")
+        surroundings = {"LD_PRELOAD": library_of("shifted_clock", folder), "SHIFT": shift}
+        collector = start('log = "text"\ndecision_wait_ms = 1500\ntick_ms = 100\n' + ALL, surroundings=surroundings)
+        for number, seconds in enumerate((-3600, 7200)):
+            span = {"traceId": f"{number + 1:032x}", "spanId": f"{number + 1:016x}"}
+            want("the answer", collector.ask(post(body_of([span])))[::2], (200, "{}"))
+            with open(shift, "w", encoding="utf-8") as file:
+                file.write(str(seconds))
+            time.sleep(0.7)
+            want("the lines before the wait is over", printed(collector), number)
+            time.sleep(2)
+            want("the lines behind it", printed(collector), number + 1)
+        want("the report", collector.close()[1], [2, 2, 0, 0, 0, 0, 0, 0, 0])
+        jumps = [int(number) for number in re.findall(r" WARN clock_jumped by_ms=(\d+) ", collector.said)]
+        want("the jumps in whole minutes", [round(number / 60000) for number in sorted(jumps)], [60, 180])
+
+
+def printed(collector):
+    """How many lines are printed."""
+    with open(collector.printed, encoding="utf-8") as file:
+        return len(file.read().splitlines())
+
+
+def batches_of_the_collector(start):
+    """A batch of 8,192 spans is taken where the limit of a body allows it, also packed; by default it is 413, and one of 4 MiB isn't."""
+    attributes = [{"key": f"attribute.{number}", "value": {"stringValue": "x" * 40}} for number in range(8)]
+    batch = body_of([{"traceId": f"{number + 1:032x}", "spanId": f"{number + 1:016x}", "attributes": attributes} for number in range(8192)])
+    want("whether the batch has more than 4 MiB and less than 20", 4 << 20 < len(batch) < 20 << 20, True)
+    room = "num_traces = 100000\nqueue_capacity = 65536\naccept_gzip = true\n"
+    collector = start(room + ALL)
+    want("a batch by default, by its head", collector.ask(post(batch)[:4096])[0], 413)
+    want("a packed batch by default", collector.ask(post(gzip.compress(batch), fields=["Content-Encoding: gzip"]))[0], 413)
+    spaces = b" " * ((4 << 20) - len(body_of([ERROR_SPAN])))
+    want("a body of 4 MiB", collector.ask(post(body_of([ERROR_SPAN]) + spaces))[::2], (200, "{}"))
+    want("the report", collector.close()[1], [1, 1, 0, 0, 0, 0, 0, 0, 0])
+    collector = start("max_request_mib = 20\n" + room + ALL)
+    want("a batch", collector.ask(post(batch))[::2], (200, "{}"))
+    want("a packed batch", collector.ask(post(gzip.compress(batch), fields=["Content-Encoding: gzip"]))[::2], (200, "{}"))
+    want("more than the limit, by its head", collector.ask(post(b" " * ((20 << 20) + 1))[:4096])[0], 413)
+    want("the report", collector.close()[1], [16384, 16384, 0, 0, 0, 0, 0, 0, 0])
+
+
+def is_logged(start):
+    """A run says its start, its address, what is full, who closed it and its report: in text, in JSON, or nothing."""
+    for form in ("text", "json"):
+        collector = start(f'log = "{form}"\nqueue_capacity = 1\nshards = 1\n' + ALL)
+        spans = [{"traceId": "1" * 32, "spanId": f"{number + 1:016x}"} for number in range(2000)]
+        collector.ask(post(body_of(spans)))
+        time.sleep(1.5)
+        _, numbers = collector.close()
+        events = [event_of(form, line) for line in collector.said.splitlines()]
+        want("the events", [name for name, _ in events if name != "closing"], ["starting", "listening"] + ["queue_full"] * (numbers[3] > 0) + ["closed"])
+        fields = dict(events)
+        want("the configuration", os.path.basename(fields["starting"]["configuration"]), "config.toml")
+        want("the address", fields["listening"]["address"], f"127.0.0.1:{collector.port}")
+        told = [fields["closed"][it] for it in "received handed invalid_id queue_full no_memory evicted not_sampled late_not_sampled exporter_down".split()]
+        want("the report", [int(it) for it in told], numbers)
+        want("who closed it", fields["closed"]["by"], "request")
+
+
+def event_of(form, line):
+    """The name and the fields of an event."""
+    if form == "json":
+        fields = json.loads(line)
+        want("the time", re.fullmatch(r"\d{4}-\d\d-\d\dT\d\d:\d\d:\d\d(\.\d+)?Z", fields["time"]) is None, False)
+        return fields["event"], fields
+    found = LINE.match(line)
+    want(f"whether {line!r} is a line of the log", found is None, False)
+    return found.group(3), {name: value.strip('"') for name, value in re.findall(r' (\w+)=(\d+|"[^"]*")', found.group(4))}
+
+
+def says_what_cannot_be(start):
+    """An address that somebody has is named with the system's error, and so is the file of a configuration that is refused; standard output is as ever."""
+    with tempfile.TemporaryDirectory() as folder:
+        config = os.path.join(folder, "config.toml")
+        collector = start(ALL)
+        cases = [
+            (f'listen = "127.0.0.1:{collector.port}"\n' + ALL, 6, b"tsc: cannot listen\n", "cannot_listen", f'what="127.0.0.1:{collector.port}"'),
+            (f'listen = "127.0.0.1:{free_port()}"\nadmin = "127.0.0.1:{collector.port}"\n' + ALL, 6, b"tsc: cannot listen\n", "cannot_listen", "Address already in use"),
+            ("lanes = 0\n" + ALL, 3, b"tsc: configuration refused: 5\n", "configuration_refused", "fault=5"),
+            ('log = "off"\nlanes = 0\n' + ALL, 3, b"tsc: configuration refused: 5\n", "configuration_refused", "fault=5"),
+        ]
+        for text, status, output, event, part in cases:
+            with open(config, "w", encoding="utf-8") as file:
+                file.write(text)
+            done = subprocess.run([start.program, "serve", config], stdin=subprocess.DEVNULL, capture_output=True, timeout=120, check=False)
+            want("the end", (done.returncode, done.stdout), (status, output))
+            last = done.stderr.decode().splitlines()[-1]
+            want(f"what {last!r} says", (event in last, part in last), (True, True))
+        collector.close()
+
+
+def listens_everywhere(start):
+    """`:PORT` is every address of the machine, for requests and for those in charge, and `tsc close` finds it."""
+    with tempfile.TemporaryDirectory() as folder:
+        config, port, admin = os.path.join(folder, "config.toml"), free_port(), free_port()
+        with open(config, "w", encoding="utf-8") as file:
+            file.write(f'listen = ":{port}"\nadmin = ":{admin}"\n' + ALL)
+        ran = subprocess.Popen([start.program, "serve", config], stdin=subprocess.DEVNULL, stdout=subprocess.PIPE, stderr=subprocess.PIPE)
+        want("the second event", [ran.stderr.readline().split()[2] for _ in range(2)][1], b"listening")
+        hosts = ["127.0.0.1", "127.0.0.2"] + (["::1"] if os.path.exists("/proc/net/if_inet6") and "00000000000000000000000000000001" in open("/proc/net/if_inet6").read() else [])
+        for host in hosts:
+            for where in (port, admin):
+                socket.create_connection((host, where), timeout=60).close()
+        done = subprocess.run([start.program, "close", config], stdin=subprocess.DEVNULL, capture_output=True, timeout=60, check=False)
+        want("the end of close", (done.returncode, done.stdout), (0, b""))
+        want("the end", (ran.wait(timeout=60), ran.stdout.readline()), (0, b"received 0\n"))
+        ran.stdout.close()
+        ran.stderr.close()
+
+
+CHECKS = [listens_everywhere, ticks_wait_for_spans, batches_of_the_collector, is_logged, says_what_cannot_be] + ([waits_by_time_that_passes] if shutil.which("cc") else [])
