@@ -1,5 +1,5 @@
 -- Worked rows: what some tables have with their defaults.
-use Rattle.std.proofs.Common.{◌≡◌, Some, None, codes, pos, true, false, refl}
+use Rattle.std.proofs.Common.{◌≡◌, [], Some, None, codes, pos, true, false, refl}
 use Rattle.toml.specs.Data.{Members, no_members, member, string, integer, boolean, table, array, no_items, get_member}
 use Rattle.config_text.specs.Whole.{with_defaults}
 
