@@ -1,6 +1,7 @@
 //! What a collector shares with those in charge of it.
 ghost use Rattle.std.specs.Prelude.{◌≡◌};
 
+use crate::admin_door::end_admin;
 use crate::board::Board;
 use crate::stop_mark::{Closer, StopMark};
 use admin_http::Admin;
@@ -10,6 +11,7 @@ use metrics_text::{Metrics, metrics_text};
 use otlp_types::Text;
 use std::alloc::{AllocError, Global};
 use std::io::Read;
+use std::rt::Files;
 use std::sync::{Arc, Wait};
 use std::thread::Threads;
 use std::{io, thread};
@@ -29,9 +31,17 @@ pub struct Charge {
     pub configuration: String,
     /// The address for those in charge, or nothing.
     pub admin: Text,
+    /// The address at which numbers alone are told, or nothing.
+    pub metrics_address: Text,
 }
 
 impl Charge {
+    /// Removes the sockets' files of its addresses, where these are some.
+    pub fn removes_sockets<R: Files>(&self, rt: &R) {
+        end_admin(rt, self.admin.as_str());
+        end_admin(rt, self.metrics_address.as_str());
+    }
+
     /// The numbers now, of a collector that has been at work for so many seconds.
     fn metrics(&self, uptime_seconds: u64) -> Metrics {
         let traffic = &self.loads.traffic;
