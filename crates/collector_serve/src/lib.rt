@@ -12,6 +12,7 @@
 mod admin_thread;
 mod board;
 mod charge;
+mod closing_door;
 mod event_writer;
 mod export_watch;
 mod line_spans;
@@ -29,6 +30,7 @@ mod wall_clock;
 pub use admin_thread::{end_admin, socket_path, start_admin};
 pub use board::Board;
 pub use charge::{Charge, close_at_end};
+pub use closing_door::ClosingDoor;
 pub use event_writer::EventWriter;
 pub use export_watch::ExportWatch;
 pub use line_spans::LineSpans;

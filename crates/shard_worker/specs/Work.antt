@@ -51,7 +51,7 @@ is_tick (Tick moment) = true
 is_tick _ = false
 
 -- what a shard took of what it popped in one round: an item that is no tick; or a tick behind what it popped of other
--- queues since it had popped that; or so, and behind the tick the item with which every sender has ended
+-- queues; or so, and behind the tick the item with which every sender has ended
 pub data Round : Type 0 where
   alone : ℕ × Entry → Round
   behind : (drained : List (ℕ × Entry)) → (tick : ℕ × Entry) → Round
@@ -68,8 +68,9 @@ abbrev pub taken_by : List Round → List (ℕ × Entry)
 taken_by [] = []
 taken_by (round ∷ earlier) = taken_by earlier ++ taken_in round
 
--- since the tick was popped, before which these earlier items had been taken, the queue at this place was empty at a
--- moment, or as many items were popped of it as it may hold
+-- behind these earlier items and the drained ones the queue at this place was empty at a moment, or as many of the
+-- drained ones are of it as it may hold. Moments are known of each queue by itself: whether that one lay behind the
+-- pop of the tick isn't said
 abbrev pub IsBehind : (capacity : ℕ) → (earlier drained : List (ℕ × Entry)) → (place : ℕ) → Type 0
 IsBehind capacity earlier drained place = WasEmpty capacity (of place (items (earlier ++ drained))) ⊎ (capacity ≤ length (of place (items drained)))
 
@@ -83,9 +84,9 @@ abbrev pub AreRounds : (capacity queues senders : ℕ) → List Round → Type 0
 AreRounds capacity queues senders [] = Unit {0}
 AreRounds capacity queues senders (round ∷ earlier) = IsRound capacity queues senders (taken_by earlier) round × AreRounds capacity queues senders earlier
 
--- What was popped of so many queues was taken in rounds: no tick was taken before each other queue was empty at a moment
--- since the tick was popped, or as many items were popped of it since as it may hold, unless every sender had ended with
--- the item behind it.
+-- What was popped of so many queues was taken in rounds: a tick that stands alone behind a round's drained items was
+-- taken behind a moment at which each other queue was empty, or behind as many of its items in that round as it may
+-- hold, unless every sender had ended with the item behind the tick.
 pub record TicksWait (capacity queues senders : ℕ) (popped : List (ℕ × Entry)) : Type 0 where
   pub rounds : List Round
   pub taken : popped ≡ taken_by rounds
@@ -99,7 +100,7 @@ pub record TicksWait (capacity queues senders : ℕ) (popped : List (ℕ × Entr
 pub record ShardWorks {L : Type 0} (asks : L → ℕ → ℕ → ℕ → Bool → L → Type 0) (capacity number : ℕ) (s : Settings) (shard : Held) (receiver : ReceiverState Item) (sender : EndState Shipment) (before after : TallyState) (first last : L) (popped : List (ℕ × Entry)) : Type 0 where
   -- they are what was popped of each sender's queue, in order
   pub of_queues : IsMergeOf receiver.ends (items popped)
-  -- each tick waited for what its other queues held when it was popped; a queue may hold `capacity` items
+  -- ticks waited for what their other queues held; a queue may hold `capacity` items
   pub ticks_wait : TicksWait capacity (length receiver.ends) s.senders popped
   -- where no popped span is without valid ids, the journal has all that was popped; one without is in no journal, so it
   -- is neither shipped nor counted
