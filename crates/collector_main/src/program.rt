@@ -297,10 +297,12 @@ fn serve_by<
     {
         return (writer, Outcome::NoMemory);
     }
-    let Ok(listener) = opened(rt, alloc, &config, &charge, around.input, &mut events) else {
+    let Ok((listener, door)) = opened(rt, alloc, &config, &charge, around.input, &mut events) else {
         return (writer, Outcome::CannotListen);
     };
     let ended = serve_with(rt, alloc, config, &listener, &charge, writer);
+    door.end(rt, &charge);
+    drop(listener);
     charge.removes_sockets(rt);
     say_end(rt, alloc, &mut events, &charge, &ended.1);
     ended

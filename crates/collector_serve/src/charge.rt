@@ -21,6 +21,8 @@ use std::{io, thread};
 pub struct Charge {
     /// The mark to stop.
     pub stop: StopMark,
+    /// The mark that the run is over.
+    pub over: StopMark,
     /// The counts while it runs.
     pub board: Board,
     /// A board that nobody reads, for a sink whose lines are told otherwise.

@@ -21,18 +21,20 @@ use std::{io, thread};
 const PAUSE: u64 = 500;
 
 /// What may begin and be over again: what is said at its beginning, at its end, and of what it tells the number.
-const COMINGS: [(&str, &str, &str); 4] = [
+const COMINGS: [(&str, &str, &str); 6] = [
     ("queue_full", "queue_has_room", "spans"),
     ("memory_refused", "memory_given", "spans"),
     ("traces_evicted", "no_trace_evicted", "spans"),
     ("requests_refused", "requests_taken", "answers_503"),
+    ("idlest_closed", "no_idlest_closed", "connections"),
+    ("files_run_out", "files_suffice", "times"),
 ];
 
 /// What was known at the last look.
 #[derive(Clone, Copy)]
 struct Known {
-    numbers: [u64; 4],
-    spells: [Spell; 4],
+    numbers: [u64; 6],
+    spells: [Spell; 6],
     taken: u64,
     unanswered: u64,
     away_since: Option<u64>,
@@ -44,8 +46,8 @@ impl Known {
     /// Nothing has happened.
     fn new() -> Self {
         Known {
-            numbers: [0; 4],
-            spells: [Spell::new(); 4],
+            numbers: [0; 6],
+            spells: [Spell::new(); 6],
             taken: 0,
             unanswered: 0,
             away_since: None,
@@ -109,15 +111,18 @@ fn number(name: &'static str, number: u64) -> LogField<'static> {
     }
 }
 
-/// The numbers that are looked at: spans that found a queue full, spans without memory, spans of evicted traces, and
-/// answers 503.
-fn numbers_of(charge: &Charge) -> [u64; 4] {
+/// The numbers that are looked at: spans that found a queue full, spans without memory, spans of evicted traces, answers
+/// 503, connections that were closed as the idlest, and how often files had run out.
+fn numbers_of(charge: &Charge) -> [u64; 6] {
     let report = charge.board.report();
+    let traffic = &charge.loads.traffic;
     [
         report.number(Count::Dropped(Reason::QueueFull)),
         report.number(Count::Dropped(Reason::NoMemory)),
         report.number(Count::Dropped(Reason::Evicted)),
-        charge.loads.traffic.answered(503),
+        traffic.answered(503),
+        traffic.closed_idle(),
+        traffic.lacked_file(),
     ]
 }
 
@@ -131,7 +136,7 @@ fn look_at_numbers<W: Write + Drop, R: Clock>(
     now: u64,
 ) {
     let numbers = numbers_of(charge);
-    for at in 0..4 {
+    for at in 0..6 {
         let grows = known.numbers[at] < numbers[at];
         known.numbers[at] = numbers[at];
         let (spell, turn) = spell_after(known.spells[at], grows, now);

@@ -51,17 +51,21 @@ pub fn tell_load<C: Room, G: Gate>(
     told: Option<Moment>,
     telling: Option<Moment>,
 ) -> Option<Moment> {
-    if telling.is_none() {
+    let Some(now) = telling else {
         return told;
-    }
+    };
     let (traces, spans) = shard.waiting();
-    let queued = receiver.len();
+    let waited = match shard.oldest_waiting() {
+        Some(opened) => now.saturating_sub(opened),
+        None => 0,
+    };
     gate.holds(
         number,
         ShardLoad {
-            queued,
+            queued: receiver.len(),
             traces,
             spans,
+            waited,
         },
     );
     telling
