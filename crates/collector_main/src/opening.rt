@@ -8,8 +8,8 @@ use crate::configuration::FileFault;
 use crate::logging::{say_fault, say_listening, say_settings};
 use admin_http::Access;
 use collector_serve::{
-    Board, Charge, ClosingDoor, EventWriter, MEMORY_ACCOUNT, StopMark, close_at_end, end_admin,
-    listen, start_admin, start_log_watch, start_memory_watch,
+    Board, Charge, ClosingDoor, EventWriter, MEMORY_ACCOUNT, OutputStall, StopMark, close_at_end,
+    end_admin, listen, start_admin, start_log_watch, start_memory_watch,
 };
 use config_text::settings_in_force;
 use lane_driver::Loads;
@@ -56,6 +56,7 @@ pub fn charge_of(
         loads: Arc::new(alloc, Loads::new(alloc, config.lanes as usize)?)?,
         admin: config.admin.try_clone(alloc)?,
         metrics_address: config.metrics.try_clone(alloc)?,
+        stall: OutputStall::new(),
     };
     Ok(Arc::new(alloc, charge)?)
 }
@@ -90,11 +91,16 @@ pub fn watches<
         );
         return Err(error);
     }
-    if config.log != LogForm::Off {
+    if config.log != LogForm::Off || is_told(config) {
         let watched = EventWriter::new(errors, config.log);
         start_log_watch(rt, alloc, watched, Arc::try_clone(charge)?)?;
     }
     Ok(())
+}
+
+/// Whether somebody may be told numbers.
+fn is_told(config: &Config) -> bool {
+    !config.admin.as_str().is_empty() || !config.metrics.as_str().is_empty()
 }
 
 /// Looks at what memory the process takes, for those who are told, and refuses requests while it is more than the
@@ -107,8 +113,7 @@ fn watches_memory<
         + Send
         + 'static,
 >(rt: &T, config: &Config, charge: &Arc<Charge, Global>) -> io::Result<()> {
-    let tells = !config.admin.as_str().is_empty() || !config.metrics.as_str().is_empty();
-    if config.memory_limit_mib == 0 && !tells {
+    if config.memory_limit_mib == 0 && !is_told(config) {
         return Ok(());
     }
     let account = fs::open(rt, MEMORY_ACCOUNT)?;

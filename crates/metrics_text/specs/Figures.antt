@@ -5,7 +5,7 @@ use Rattle.metrics_text.specs.declared.metrics.Metrics.{Metrics}
 use Rattle.metrics_text.specs.declared.kind.FamilyKind.{FamilyKind}
 use Rattle.metrics_text.specs.declared.kind.FamilyKind.TheVariants.{Counter, Gauge}
 use Rattle.metrics_text.specs.declared.figure.Figure.{Figure}
-use Rattle.metrics_text.specs.declared.figure.Figure.TheVariants.{SpansWaiting, ReceivedBytes, SentBytes, Lines, OutputBytes, Memory, Answered200, Answered400, Answered404, Answered405, Answered408, Answered413, Answered415, Answered431, Answered503, LateSampled, LateNotSampled, Rejected, AttemptsTaken, AttemptsRefused, AttemptsUnanswered, OutputStalled, LogWarnings, LogErrors, ClockJumps, ClosedIdle}
+use Rattle.metrics_text.specs.declared.figure.Figure.TheVariants.{SpansWaiting, ReceivedBytes, SentBytes, Lines, OutputBytes, Memory, Answered200, Answered400, Answered404, Answered405, Answered408, Answered413, Answered415, Answered431, Answered503, LateSampled, LateNotSampled, Rejected, AttemptsTaken, AttemptsRefused, AttemptsUnanswered, OutputStalled, OldestWaiting, LogWarnings, LogErrors, ClockJumps, ClosedIdle}
 use Rattle.metrics_text.specs.Families.{word_of, head_lines, sample, sample_line}
 
 -- what is told of a number: its name, what its family's head says, where it is the first of it and else nothing, the
@@ -60,6 +60,7 @@ figure_row AttemptsTaken = attempted (codes "Attempts to send a line, by how the
 figure_row AttemptsRefused = attempted [] (codes "refused")
 figure_row AttemptsUnanswered = attempted [] (codes "unanswered")
 figure_row OutputStalled = single (codes "tsc_output_stalled_seconds") (codes "Seconds since the write or delivery began that is under way, 0 where none is.") Gauge
+figure_row OldestWaiting = single (codes "tsc_oldest_waiting_seconds") (codes "Seconds that the oldest undecided trace has waited, as the shards told last, 0 where none waits.") Gauge
 figure_row LogWarnings = logged (codes "Lines of the log that tell of trouble, by their level.") (codes "warn")
 figure_row LogErrors = logged [] (codes "error")
 figure_row ClockJumps = single (codes "tsc_clock_jumps_total") (codes "Jumps of the wall clock that were seen.") Counter
@@ -89,6 +90,7 @@ figure_value metrics AttemptsTaken = metrics.attempts_taken
 figure_value metrics AttemptsRefused = metrics.attempts_refused
 figure_value metrics AttemptsUnanswered = metrics.attempts_unanswered
 figure_value metrics OutputStalled = metrics.output_stalled_seconds
+figure_value metrics OldestWaiting = metrics.oldest_waiting_seconds
 figure_value metrics LogWarnings = metrics.log_warnings
 figure_value metrics LogErrors = metrics.log_errors
 figure_value metrics ClockJumps = metrics.clock_jumps
@@ -100,7 +102,7 @@ all_figures =
     SpansWaiting ∷ ReceivedBytes ∷ SentBytes ∷ Lines ∷ OutputBytes ∷ Memory
     ∷ Answered200 ∷ Answered400 ∷ Answered404 ∷ Answered405 ∷ Answered408 ∷ Answered413 ∷ Answered415 ∷ Answered431 ∷ Answered503
     ∷ LateSampled ∷ LateNotSampled ∷ Rejected ∷ AttemptsTaken ∷ AttemptsRefused ∷ AttemptsUnanswered
-    ∷ OutputStalled ∷ LogWarnings ∷ LogErrors ∷ ClockJumps ∷ ClosedIdle ∷ []
+    ∷ OutputStalled ∷ OldestWaiting ∷ LogWarnings ∷ LogErrors ∷ ClockJumps ∷ ClosedIdle ∷ []
 
 -- the lines in front of a family's first number
 abbrev pub head_of : FigureRow → List ℕ

@@ -53,6 +53,8 @@ pub enum Figure {
     AttemptsUnanswered,
     /// Seconds since the write began that is under way.
     OutputStalled,
+    /// Seconds that the oldest undecided trace has waited.
+    OldestWaiting,
     /// Lines of the log that warned.
     LogWarnings,
     /// Lines of the log that told an error.
@@ -205,6 +207,12 @@ impl Figure {
                 FamilyKind::Gauge,
                 "",
             ),
+            Figure::OldestWaiting => (
+                "tsc_oldest_waiting_seconds",
+                "Seconds that the oldest undecided trace has waited, as the shards told last, 0 where none waits.",
+                FamilyKind::Gauge,
+                "",
+            ),
             Figure::LogWarnings => (
                 "tsc_log_lines_total",
                 "Lines of the log that tell of trouble, by their level.",
@@ -259,6 +267,7 @@ impl Figure {
             Figure::AttemptsRefused => metrics.attempts_refused,
             Figure::AttemptsUnanswered => metrics.attempts_unanswered,
             Figure::OutputStalled => metrics.output_stalled_seconds,
+            Figure::OldestWaiting => metrics.oldest_waiting_seconds,
             Figure::LogWarnings => metrics.log_warnings,
             Figure::LogErrors => metrics.log_errors,
             Figure::ClockJumps => metrics.clock_jumps,

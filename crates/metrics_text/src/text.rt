@@ -221,6 +221,7 @@ fn put_figures(text: &mut String, metrics: &Metrics) -> Result<(), AllocError>
         Figure::AttemptsRefused,
         Figure::AttemptsUnanswered,
         Figure::OutputStalled,
+        Figure::OldestWaiting,
         Figure::LogWarnings,
         Figure::LogErrors,
         Figure::ClockJumps,
