@@ -19,7 +19,7 @@ NO_VALUES = "policies: the values or status codes of a policy are an empty list 
 SAME_NAME = "policies: two policies of one list have the same name (fault 7.4)"
 TYPES = ", ".join(policy_types())
 TABLES = ("decision_cache", "export")
-WANTED = {"Integer": "a whole number is wanted", "Text": "a text is wanted", "Choice": "a text is wanted", "LogForm": "a text is wanted", "Truth": "true or false is wanted"}
+WANTED = {"Integer": "a whole number is wanted", "Text": "a text is wanted", "Choice": "a text is wanted", "LogForm": "a text is wanted", "OutputFault": "a text is wanted", "Truth": "true or false is wanted"}
 
 # A name, a text, and its lines; of a text without a fault there is none.
 ROWS = [
@@ -49,9 +49,9 @@ ROWS = [
         "policies: an array is wanted (fault 4)",
         EMPTY,
     ]),
-    ("texts of two", f'queue_full = "wait"\noutput_fault = ""\ndouble_values = "stop"\n{POLICIES}', ['queue_full: "wait" is none of partial, retry (fault 5)', 'output_fault: "" is none of discard, stop (fault 5)',
+    ("texts of two", f'queue_full = "wait"\ndouble_values = "stop"\n{POLICIES}', ['queue_full: "wait" is none of partial, retry (fault 5)',
         'double_values: "stop" is none of discard, keep (fault 5)']),
-    ("a text of three", f'log = "stderr"\n{POLICIES}', ['log: "stderr" is none of text, json, off (fault 5)']),
+    ("texts of three", f'output_fault = ""\nlog = "stderr"\n{POLICIES}', ['log: "stderr" is none of text, json, off (fault 5)', 'output_fault: "" is none of discard, stop, retry (fault 5)']),
     ("a text of two lines", f'queue_full = "a\\nb"\n{POLICIES}', ['queue_full: "a\\nb" is none of partial, retry (fault 5)']),
     ("caches", f"decision_cache = {{ sampled_cache_size = 1000001, non_sampled_cache_size = \"1\", sampled = 1 }}\n{POLICIES}", [
         "decision_cache.sampled: no such key (fault 2)",

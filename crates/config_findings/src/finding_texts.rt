@@ -89,6 +89,9 @@ pub fn value_text(
             format!(in alloc; "{place}: {value} is none of {default}, {other}")
         }
         ValueKind::LogForm => format!(in alloc; "{place}: {value} is none of text, json, off"),
+        ValueKind::OutputFault => {
+            format!(in alloc; "{place}: {value} is none of discard, stop, retry")
+        }
         ValueKind::Endpoint => {
             format!(in alloc; "{place}: {value} is not of the form http://HOST:PORT/PATH")
         }
@@ -128,7 +131,8 @@ fn type_text(wanted: ValueKind) -> &'static str {
         | ValueKind::Endpoint
         | ValueKind::PolicyType
         | ValueKind::Choice(_)
-        | ValueKind::LogForm => "a text",
+        | ValueKind::LogForm
+        | ValueKind::OutputFault => "a text",
         ValueKind::Percentage => "a number",
         ValueKind::Array(_) => "an array",
         ValueKind::Headers => "a table of texts",
