@@ -84,6 +84,8 @@ pub struct Board {
     attempts_refused: AtomicU64,
     /// Attempts to send a line that had no answer.
     attempts_unanswered: AtomicU64,
+    /// So often it was asked to open the output anew.
+    reopens: AtomicU64,
 }
 
 impl Board {
@@ -117,6 +119,7 @@ impl Board {
             attempts_taken: AtomicU64::new(0),
             attempts_refused: AtomicU64::new(0),
             attempts_unanswered: AtomicU64::new(0),
+            reopens: AtomicU64::new(0),
         })
     }
 
@@ -181,6 +184,11 @@ impl Board {
             self.attempts_refused.load(Ordering::Relaxed),
             self.attempts_unanswered.load(Ordering::Relaxed),
         )
+    }
+
+    /// The output is to be opened anew.
+    pub fn asks_to_reopen(&self) {
+        self.reopens.fetch_add(1, Ordering::Relaxed);
     }
 
     /// The output took these bytes, which may end a line.

@@ -73,15 +73,17 @@ pub struct InCharge<'c> {
     charge: &'c Charge,
     uptime_seconds: u64,
     is_closed: bool,
+    is_reopened: bool,
 }
 
 impl<'c> InCharge<'c> {
-    /// A collector that has been at work for so many seconds, and that was not asked to close.
+    /// A collector that has been at work for so many seconds, and that was asked for nothing.
     pub fn new(charge: &'c Charge, uptime_seconds: u64) -> Self {
         InCharge {
             charge,
             uptime_seconds,
             is_closed: false,
+            is_reopened: false,
         }
     }
 }
@@ -96,6 +98,8 @@ impl<'c> Admin for InCharge<'c> {
 
     ghost is_closed = { λ a. a.is_closed };
 
+    ghost is_reopened = { λ a. a.is_reopened };
+
     ghost stops = { λ a said. ⊤ };
 
     ghost tells = { λ a text. (metrics : Metrics) × (policies : List PolicyNumbers) × (shards : List ShardNumbers) × (text ≡ metrics_text metrics policies shards) };
@@ -105,6 +109,11 @@ impl<'c> Admin for InCharge<'c> {
     fn close(&mut self) {
         self.charge.stop.set_by(Closer::Admin);
         self.is_closed = true;
+    }
+
+    fn reopen(&mut self) {
+        self.charge.board.asks_to_reopen();
+        self.is_reopened = true;
     }
 
     fn is_stopping(&self) -> bool {
