@@ -7,6 +7,7 @@
 
 mod asking;
 mod closing;
+mod collecting;
 mod configuration;
 mod logging;
 mod opening;

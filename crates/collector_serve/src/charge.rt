@@ -8,6 +8,7 @@ use http_lane::HasStopMark;
 use lane_driver::Loads;
 use metrics_text::{Metrics, metrics_text};
 use otlp_types::Text;
+use output_file::ReopenMark;
 use std::alloc::{AllocError, Global};
 use std::io::Read;
 use std::sync::{Arc, Wait};
@@ -29,6 +30,10 @@ pub struct Charge {
     pub configuration: String,
     /// The address for those in charge, or nothing.
     pub admin: Text,
+    /// What asks for the output's file to be opened anew.
+    pub reopen: ReopenMark,
+    /// The path of the output's file, or nothing.
+    pub output: Text,
 }
 
 impl Charge {
@@ -112,7 +117,7 @@ impl<'c> Admin for InCharge<'c> {
     }
 
     fn reopen(&mut self) {
-        self.charge.board.asks_to_reopen();
+        self.charge.reopen.ask();
         self.is_reopened = true;
     }
 

@@ -25,6 +25,7 @@ mod stop_mark;
 mod stopping_sink;
 mod ticker;
 mod wall_clock;
+mod write_watch;
 
 pub use admin_thread::{end_admin, socket_path, start_admin};
 pub use board::Board;
@@ -41,3 +42,4 @@ pub use steady_clock::SteadyClock;
 pub use stop_mark::{Closer, StopMark};
 pub use stopping_sink::StoppingSink;
 pub use ticker::Ticker;
+pub use write_watch::WriteWatch;
