@@ -10,7 +10,7 @@ use crate::logging::{say_end, say_fault, say_no_memory, say_refused, say_start};
 use crate::opening::{charge_of, copy_of, opened, watches};
 use crate::program::{Outcome, Surroundings};
 use crate::running::serve_with;
-use collector_serve::{Charge, EventWriter, SteadyClock, WriteWatch, end_admin};
+use collector_serve::{Charge, EventWriter, SteadyClock, WriteWatch};
 use output_file::{FilesPlace, OutputFile, ReopenMark, RetryingWriter};
 use pipeline::Machine;
 use std::alloc::Global;
@@ -90,7 +90,7 @@ pub fn serve_by<
         return (writer, Outcome::CannotListen);
     };
     let ended = serve_to(rt, alloc, config, &listener, &charge, output, writer);
-    end_admin(rt, charge.admin.as_str());
+    charge.removes_sockets(rt);
     say_end(rt, alloc, &mut events, &charge, &ended.1);
     ended
 }

@@ -6,9 +6,10 @@ ghost use Rattle.collector_main.specs.Configuration.{file_of};
 
 use crate::configuration::FileFault;
 use crate::logging::{say_fault, say_listening};
+use admin_http::Access;
 use collector_serve::{
-    Board, Charge, EventWriter, MEMORY_ACCOUNT, StopMark, close_at_end, listen, start_admin,
-    start_log_watch, start_memory_watch,
+    Board, Charge, EventWriter, MEMORY_ACCOUNT, StopMark, close_at_end, end_admin, listen,
+    start_admin, start_log_watch, start_memory_watch,
 };
 use config_text::settings_in_force;
 use lane_driver::Loads;
@@ -56,12 +57,13 @@ pub fn charge_of(
         admin: config.admin.try_clone(alloc)?,
         reopen: ReopenMark::new(),
         output: config.output.try_clone(alloc)?,
+        metrics_address: config.metrics.try_clone(alloc)?,
     };
     Ok(Arc::new(alloc, charge)?)
 }
 
-/// Looks at a run: at what memory the process takes, where the configuration limits that or there are those in charge,
-/// and at what is to be said of the run, where something is.
+/// Looks at a run: at what memory the process takes, where the configuration limits that or somebody is told, and at
+/// what is to be said of the run, where something is.
 pub fn watches<
     T: Files<File = File>
         + Net<Listener = TcpListener, Stream = TcpStream>
@@ -96,7 +98,7 @@ pub fn watches<
     Ok(())
 }
 
-/// Looks at what memory the process takes, for those in charge, and refuses requests while it is more than the
+/// Looks at what memory the process takes, for those who are told, and refuses requests while it is more than the
 /// configuration says.
 fn watches_memory<
     T: Files<File = File>
@@ -106,7 +108,8 @@ fn watches_memory<
         + Send
         + 'static,
 >(rt: &T, config: &Config, charge: &Arc<Charge, Global>) -> io::Result<()> {
-    if config.memory_limit_mib == 0 && config.admin.as_str().is_empty() {
+    let tells = !config.admin.as_str().is_empty() || !config.metrics.as_str().is_empty();
+    if config.memory_limit_mib == 0 && !tells {
         return Ok(());
     }
     let account = fs::open(rt, MEMORY_ACCOUNT)?;
@@ -118,8 +121,30 @@ fn watches_memory<
     )
 }
 
-/// Listens at the address of requests, and, as the configuration says, at that for those in charge, and to the end of
-/// the input.
+/// Answers at an address by what may be asked for there; nothing at none.
+fn answers_at<
+    T: Files + Net<Listener = TcpListener, Stream = TcpStream> + Machine + Copy + Send + 'static,
+    E: Write + Drop,
+>(
+    rt: &T,
+    alloc: Global,
+    address: &str,
+    access: Access,
+    charge: &Arc<Charge, Global>,
+    events: &mut EventWriter<E>,
+) -> io::Result<()> {
+    if address.is_empty() {
+        return Ok(());
+    }
+    if let Err(error) = start_admin(rt, alloc, address, access, Arc::try_clone(charge)?) {
+        say_fault(rt, alloc, events, "cannot_listen", address, error);
+        return Err(error);
+    }
+    Ok(())
+}
+
+/// Listens at the address of requests, and, as the configuration says, at that for those in charge, at that of numbers
+/// alone, and to the end of the input.
 pub fn opened<
     T: Files<File = File>
         + Net<Listener = TcpListener, Stream = TcpStream>
@@ -146,11 +171,11 @@ pub fn opened<
         }
     };
     let admin = config.admin.as_str();
-    if !admin.is_empty() {
-        if let Err(error) = start_admin(rt, alloc, admin, Arc::try_clone(charge)?) {
-            say_fault(rt, alloc, events, "cannot_listen", admin, error);
-            return Err(error);
-        }
+    answers_at(rt, alloc, admin, Access::Full, charge, events)?;
+    let metrics = config.metrics.as_str();
+    if let Err(error) = answers_at(rt, alloc, metrics, Access::Numbers, charge, events) {
+        end_admin(rt, admin);
+        return Err(error);
     }
     if config.close_at_end_of_input {
         close_at_end(rt, input, Arc::try_clone(charge)?)?;

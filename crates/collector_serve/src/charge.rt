@@ -1,6 +1,7 @@
 //! What a collector shares with those in charge of it.
 ghost use Rattle.std.specs.Prelude.{◌≡◌};
 
+use crate::admin_door::end_admin;
 use crate::board::Board;
 use crate::stop_mark::{Closer, StopMark};
 use admin_http::Admin;
@@ -11,6 +12,7 @@ use otlp_types::Text;
 use output_file::ReopenMark;
 use std::alloc::{AllocError, Global};
 use std::io::Read;
+use std::rt::Files;
 use std::sync::{Arc, Wait};
 use std::thread::Threads;
 use std::{io, thread};
@@ -34,9 +36,17 @@ pub struct Charge {
     pub reopen: ReopenMark,
     /// The path of the output's file, or nothing.
     pub output: Text,
+    /// The address at which numbers alone are told, or nothing.
+    pub metrics_address: Text,
 }
 
 impl Charge {
+    /// Removes the sockets' files of its addresses, where these are some.
+    pub fn removes_sockets<R: Files>(&self, rt: &R) {
+        end_admin(rt, self.admin.as_str());
+        end_admin(rt, self.metrics_address.as_str());
+    }
+
     /// The numbers now, of a collector that has been at work for so many seconds.
     fn metrics(&self, uptime_seconds: u64) -> Metrics {
         let traffic = &self.loads.traffic;

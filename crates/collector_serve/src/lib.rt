@@ -9,6 +9,7 @@
 //! ```
 #![tactic(auto)]
 
+mod admin_door;
 mod admin_thread;
 mod board;
 mod charge;
@@ -24,10 +25,12 @@ mod steady_clock;
 mod stop_mark;
 mod stopping_sink;
 mod ticker;
+mod visit;
 mod wall_clock;
 mod write_watch;
 
-pub use admin_thread::{end_admin, socket_path, start_admin};
+pub use admin_door::{end_admin, socket_path};
+pub use admin_thread::start_admin;
 pub use board::Board;
 pub use charge::{Charge, close_at_end};
 pub use event_writer::EventWriter;
