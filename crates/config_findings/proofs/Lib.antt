@@ -1,3 +1,5 @@
 mod FaultLists
+mod Slashes
 mod Told
 mod FaultRows
+mod AddressRows
