@@ -160,7 +160,7 @@ def the_three_steps_on_a_bad_day(here):
         want("how many files the output has", len(list(disk.folder.glob("kept.jsonl.*"))) >= 1, True)
         want("what is missing behind the Collector", sorted(set(wanted) - set(came))[:5], [])
         want("what came that isn't of a trace with an error", sorted(set(came) - set(wanted))[:5], [])
-        want("whether the full disk was said", {"output_failed", "output_back"} <= set(service.events()), True)
+        want("whether the full disk was said", {"output_failing", "output_back"} <= set(service.events()), True)
     finally:
         tail.kill()
         tail.wait()

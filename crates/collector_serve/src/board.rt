@@ -84,6 +84,7 @@ pub struct Board {
     attempts_refused: AtomicU64,
     /// Attempts to send a line that had no answer.
     attempts_unanswered: AtomicU64,
+    incomplete: AtomicU64,
 }
 
 impl Board {
@@ -117,6 +118,7 @@ impl Board {
             attempts_taken: AtomicU64::new(0),
             attempts_refused: AtomicU64::new(0),
             attempts_unanswered: AtomicU64::new(0),
+            incomplete: AtomicU64::new(0),
         })
     }
 
@@ -181,6 +183,11 @@ impl Board {
             self.attempts_refused.load(Ordering::Relaxed),
             self.attempts_unanswered.load(Ordering::Relaxed),
         )
+    }
+
+    /// How many spans with valid ids came of which attributes were left out, by their sender or as they hold a double.
+    pub fn incomplete(&self) -> u64 {
+        self.incomplete.load(Ordering::Relaxed)
     }
 
     /// The output took these bytes, which may end a line.
@@ -303,6 +310,10 @@ impl Gate for Board {
         } else {
             self.cell(place).fetch_add(spans, Ordering::Relaxed);
         }
+    }
+
+    fn takes_incomplete(&self) {
+        self.incomplete.fetch_add(1, Ordering::Relaxed);
     }
 
     fn holds(&self, shard: u16, load: ShardLoad) {
