@@ -7,7 +7,7 @@ import tomllib
 
 from collector import ALL, want
 from serve_admin import asked, free_port, get
-from settings import TOP, cache_numbers, export_numbers, export_truths, other_names, readme_numbers
+from settings import TOP, cache_numbers, export_numbers, export_truths, other_names, readme_empty_texts, readme_numbers
 
 CACHES, ROOT_WAIT = "decision_cache", "root_wait_ms"
 
@@ -18,6 +18,7 @@ def defaults():
     top = {key: number for key, number in numbers.items() if key not in cache_numbers() | export_numbers() and key not in other_names()}
     others = re.findall(r"^\| `(\w+)`: [^|]* \| (?:true or false|`\w+` \([^|]*) \| (`\w+`|false)[^|]* \|", (TOP / "README.md").read_text(), re.M)
     top |= {key: text.strip("`") if text.startswith("`") else False for key, text in others if key not in export_truths()}
+    top |= {key: "" for key in readme_empty_texts()}
     return top | {CACHES: {key: numbers[key] for key in cache_numbers()}}
 
 
@@ -30,7 +31,7 @@ def with_defaults(settings):
 
 
 def examples():
-    """Texts without `listen` and `admin`: one that sets next to nothing, one that sets parts of tables and the other name of a key, and two examples."""
+    """Texts without `listen`, `admin`, `metrics` and `output`: one that sets next to nothing, one that sets parts of tables and the other name of a key, and two examples."""
     yield ALL
     yield 'decision_wait_after_root_received_ms = 7\nnum_traces = 9\nqueue_full = "retry"\n' + ALL + f"[{CACHES}]\nnon_sampled_cache_size = 3\n"
     yield 'root_wait_ms = 1\nclose_at_end_of_input = false\n"tick_ms" = 0x10\n' + ALL.replace("all", "a\\u00fc\\\"b")
@@ -40,7 +41,7 @@ def examples():
         if export is not None:
             behind = next((number for number, line in enumerate(lines) if number > export and line.startswith("[")), len(lines))
             del lines[export:behind]
-        yield "".join(line for line in lines if not line.startswith(("listen ", "admin ", "close_at_end_of_input ")))
+        yield "".join(line for line in lines if not line.startswith(("listen ", "admin ", "metrics ", "output ", "close_at_end_of_input ")))
 
 
 def validated(program, folder, text):

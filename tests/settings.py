@@ -1,5 +1,5 @@
 #!/usr/bin/env python3
-"""The keys of whole numbers, of one of two texts and of truth values, as `crates/tsc_config/specs/Settings.antt` states them, which the law `settings_are_of_their_keys` ties to the program.
+"""The keys of whole numbers, of one of some texts, of texts that are empty by default and of truth values, as `crates/tsc_config/specs/Settings.antt` states them, which the law `settings_are_of_their_keys` ties to the program.
 
     tests/settings.py
 
@@ -63,16 +63,33 @@ def export_truths():
     return set(re.findall(r'^  pub \w+ : IsTruthAt given \(codes "(\w+)"\) ', DEFINITION.read_text(), re.M))
 
 
+def texts_of_three():
+    """Of each key of one of three texts these, that by default first."""
+    rows = re.findall(r'get_member \(codes "(\w+)"\) members ≡ Some \(string \(codes "(\w+)"\)\)', DEFINITION.read_text())
+    return {key: [text for other, text in rows if other == key] for key, _ in rows}
+
+
 def other_keys():
-    """Of each key of one of two texts the default and the other, and of each key of a truth value its default, as the README writes them."""
+    """Of each key of one of some texts the default and the others, and of each key of a truth value its default, as the README writes them."""
     text = DEFINITION.read_text()
     rows = re.findall(r'^  pub \w+ : IsChoiceAt members \(codes "(\w+)"\) \(codes "(\w+)"\) \(codes "(\w+)"\) ', text, re.M)
+    choices = {key: texts for key, *texts in rows} | texts_of_three()
     truths = re.findall(r'^  pub \w+ : IsTruthAt members \(codes "(\w+)"\) ', text, re.M)
-    return {key: (f"`{default}`", f"`{other}`") for key, default, other in rows} | {key: ("false", "true") for key in truths}
+    return {key: tuple(f"`{it}`" for it in texts) for key, texts in choices.items()} | {key: ("false", "true") for key in truths}
+
+
+def empty_texts():
+    """The keys of texts that are empty by default, but for that of which the README says that there is none."""
+    return set(re.findall(r'^  pub \w+ : IsTextAt members \(codes "(\w+)"\) \[\] ', DEFINITION.read_text(), re.M)) - {"admin"}
+
+
+def readme_empty_texts():
+    """The keys of which the README's table says that they are empty by default."""
+    return re.findall(r'^\| `(\w+)`: [^|]* \| [^|]* \| `""`[^|]* \|', (TOP / "README.md").read_text(), re.M)
 
 
 def readme_others():
-    """What the README's table says of each of these keys: its default, and whether both of its values are told."""
+    """What the README's table says of each of these keys: its default, and how many of its values are told."""
     found = {}
     for line in (TOP / "README.md").read_text().splitlines():
         row = re.match(r"\| `(\w+)`[^|]* \| ([^|]*) \| (`\w+`|false)[^|]* \|", line)
@@ -109,14 +126,15 @@ def differences():
     for key in sorted(wanted.keys() | said.keys()):
         if said.get(key) != [wanted.get(key)]:
             yield f"README.md has {said.get(key)} for {key}, the definition {wanted.get(key)} (default, least, greatest)"
-    for key, (default, _) in other_keys().items():
-        if readme_others().get(key) != [(default, 2)]:
-            yield f"README.md has {readme_others().get(key)} for {key}, whose default is {default} (default, values told)"
+    for key, values in other_keys().items():
+        if readme_others().get(key) != [(values[0], len(values))]:
+            yield f"README.md has {readme_others().get(key)} for {key}, whose values are {', '.join(values)} (default, values told)"
+    yield from (f"README.md and the definition differ in {key}, whether it is empty by default" for key in sorted(empty_texts() ^ set(readme_empty_texts())))
     example = tomllib.loads((TOP / "examples/every_key.toml").read_text())
     for place, keys in ((example, top_numbers()), (example.get(CACHES, {}), cache_numbers()), (example.get(EXPORT, {}), export_numbers())):
         numbers = {key for key, value in place.items() if type(value) is int}
         yield from (f"examples/every_key.toml and the definition differ in {key}" for key in sorted(numbers ^ (keys.keys() - other_names())))
-    yield from (f"examples/every_key.toml has no {key}" for key in sorted(other_keys().keys() - example.keys()))
+    yield from (f"examples/every_key.toml has no {key}" for key in sorted((other_keys().keys() | empty_texts()) - example.keys()))
 
 
 if __name__ == "__main__":

@@ -1,13 +1,15 @@
 -- What is told of a configuration that is validated.
-use Rattle.std.specs.Prelude.{◌≡◌, ◌≢◌, ◌⊎◌, ◌++◌, ℕ, List, [], map, Result, Ok, Err, IsOk, IsErr, codes, decimal, string_bytes, ⊤}
+use Rattle.std.specs.Prelude.{◌≡◌, ◌≢◌, ◌⊎◌, ◌++◌, ℕ, List, [], ◌∷◌, map, Result, Ok, Err, IsOk, IsErr, codes, decimal, string_bytes, ⊤}
 use Rattle.std.specs.List.{concat}
 use Rattle.policy_tree.specs.Faults.{policy_fault_number}
 use Rattle.config_faults.specs.Faults.{config_fault_number}
+use Rattle.config_findings.specs.AddressFindings.{said_of, text_addresses}
 use Rattle.config_findings.specs.FaultLists.{Tells, faults_in}
 use Rattle.tsc_config.specs.FaultSets.{MayBeTooBig}
 use Rattle.tsc_config.specs.Reading.{reading}
 use Rattle.config_faults.specs.declared.fault.ConfigFault.{ConfigFault}
 use Rattle.config_faults.specs.declared.fault.ConfigFault.TheVariants.{Policy}
+use Rattle.config_findings.specs.declared.address_findings.AddressFinding.{AddressFinding}
 use Rattle.config_findings.specs.declared.findings.ConfigFinding.{ConfigFinding}
 use Rattle.collector_main.specs.Configuration.{IsText, outcome_of_fault}
 use Rattle.collector_main.specs.declared.configuration.FileFault.{FileFault}
@@ -27,13 +29,34 @@ line_of finding = string_bytes finding.said ++ (codes " (fault " ++ (fault_numbe
 abbrev pub lines_of : List ConfigFinding → List ℕ
 lines_of findings = concat (map line_of findings)
 
--- what is told of bytes: that they are no text that may be read; that it is read as a configuration; a line for each of
--- its faults, and for expressions that are too big, of which the text must have that many; or that there was no memory
+-- the line of an address that can't be one
+abbrev pub address_line : AddressFinding → List ℕ
+address_line finding = said_of finding ++ codes "\n"
+
+-- the lines of such addresses
+abbrev pub address_lines : List AddressFinding → List ℕ
+address_lines findings = concat (map address_line findings)
+
+-- these lines are told of a text: one for each of its faults, and for expressions that are too big, of which the text
+-- must have that many; and behind them one for each address that can't be one, which is no fault
+pub record IsToldOf (text lines : List ℕ) : Type 0 where
+  pub findings : List ConfigFinding
+  pub faults : Tells text (faults_in findings)
+  pub some : findings ≢ [] → IsErr (reading text) ⊎ MayBeTooBig (reading text)
+  pub none : findings ≡ [] → IsOk (reading text) × (text_addresses text ≢ [])
+  pub told : lines ≡ lines_of findings ++ address_lines (text_addresses text)
+
+-- what is told of a text: that it is read as a configuration, and each of its addresses may be one; or some lines
+abbrev pub TextTells : List ℕ → Outcome → Type 0
+TextTells text Valid = IsOk (reading text) × (text_addresses text ≡ [])
+TextTells text (Faulty lines) = IsToldOf text (string_bytes lines)
+TextTells text _ = ⊥
+
+-- what is told of bytes: that they are no text that may be read; what is told of the text; or that there was no memory
 abbrev pub BytesTell : List ℕ → Outcome → Type 0
 BytesTell bytes Unreadable = ¬ IsText bytes
-BytesTell bytes Valid = IsText bytes × IsOk (reading bytes)
-BytesTell bytes (Faulty lines) =
-    IsText bytes × (IsErr (reading bytes) ⊎ MayBeTooBig (reading bytes)) × ((findings : List ConfigFinding) × (findings ≢ []) × Tells bytes (faults_in findings) × (string_bytes lines ≡ lines_of findings))
+BytesTell bytes Valid = IsText bytes × TextTells bytes Valid
+BytesTell bytes (Faulty lines) = IsText bytes × TextTells bytes (Faulty lines)
 BytesTell bytes NoMemory = ⊤
 BytesTell bytes _ = ⊥
 

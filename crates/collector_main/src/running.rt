@@ -13,7 +13,7 @@ use span_sink::WriteSink;
 use std::alloc::Global;
 use std::io::{ErrorKind, Write};
 use std::net::{Net, TcpListener, TcpStream};
-use tsc_config::Config;
+use tsc_config::{Config, OutputFault};
 
 /// Takes requests on a listener by a configuration, and prints the lines, or sends them to a backend, or both.
 pub fn serve_with<
@@ -57,7 +57,7 @@ fn print_with<'s, T: Net + Machine, W: Write + Drop>(
         Err(_) => return (writer, Outcome::CannotListen),
     };
     let clock = SteadyClock::new(rt);
-    let stops = config.stops_at_output_fault;
+    let stops = config.output_fault == OutputFault::Stop;
     let written = WriteSink::new(writer);
     let sink = StoppingSink::new(written, &shared.stop, stops, &shared.board);
     let context = RunContext {

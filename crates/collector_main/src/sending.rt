@@ -24,7 +24,7 @@ use span_sink::{Sink, WriteSink};
 use std::alloc::Global;
 use std::io::{ErrorKind, Write};
 use std::net::{Net, TcpListener, TcpStream};
-use tsc_config::Config;
+use tsc_config::{Config, OutputFault};
 
 /// Takes requests on a listener by a configuration, and sends the lines to a backend; it prints them too, where the
 /// configuration says so.
@@ -146,7 +146,7 @@ fn serve_through<'s, D: Driver + Send + Drop, T: Machine, S: Sink + Drop>(
     ensures ran { CoreRunTells config (S.taken sink) (S.failures sink) (S.taken result.0) (S.failures result.0) result.1 }
 {
     let clock = SteadyClock::new(rt);
-    let stops = config.stops_at_output_fault;
+    let stops = config.output_fault == OutputFault::Stop;
     let sink = StoppingSink::new(sink, &shared.stop, stops, &shared.silent);
     let config = with_export_room(config);
     let context = RunContext {

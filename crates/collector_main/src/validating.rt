@@ -1,12 +1,12 @@
-//! Every fault of a configuration, in lines.
-ghost use Rattle.std.specs.Prelude.{◌≡◌, IfOk, string_bytes};
+//! Every fault of a configuration, in lines, and behind them what can't run of it.
+ghost use Rattle.std.specs.Prelude.{◌≡◌, ◌++◌, IfOk, OnOk, string_bytes};
 ghost use Rattle.collector_main.specs.Configuration.{file_of};
-ghost use Rattle.collector_main.specs.Validating.{FileTells, fault_number, line_of, lines_of};
+ghost use Rattle.collector_main.specs.Validating.{FileTells, TextTells, address_line, address_lines, fault_number, line_of, lines_of};
 
 use crate::configuration::{FileFault, text_in};
 use crate::program::Outcome;
 use config_faults::ConfigFault;
-use config_findings::{ConfigFinding, faults};
+use config_findings::{AddressFinding, ConfigFinding, faults};
 use std::alloc::{AllocError, Global};
 
 /// What is told of the configuration in what was read of its file.
@@ -21,16 +21,47 @@ pub fn told_of(alloc: Global, file: Result<Vec<u8>, FileFault>) -> Outcome
     let Some(text) = text_in(bytes) else {
         return Outcome::Unreadable;
     };
-    let Ok(found) = faults(alloc, text.as_str()) else {
-        return Outcome::NoMemory;
-    };
-    if found.is_empty() {
-        return Outcome::Valid;
-    }
-    match lines_of(alloc, &found) {
-        Ok(lines) => Outcome::Faulty(lines),
+    match told_in(alloc, text.as_str()) {
+        Ok(outcome) => outcome,
         Err(_) => Outcome::NoMemory,
     }
+}
+
+/// What is told of the configuration in a text.
+fn told_in(alloc: Global, text: &str) -> Result<Outcome, AllocError>
+    ensures { IfOk result (TextTells text.now) }
+{
+    let all = faults(alloc, text)?;
+    if all.faults.is_empty() && all.addresses.is_empty() {
+        return Ok(Outcome::Valid);
+    }
+    let mut lines = lines_of(alloc, &all.faults)?;
+    add_addresses(alloc, &all.addresses, &mut lines)?;
+    Ok(Outcome::Faulty(lines))
+}
+
+/// Adds the lines of addresses that can't be one.
+fn add_addresses(
+    alloc: Global,
+    findings: &[AddressFinding],
+    lines: &mut String,
+) -> Result<(), AllocError>
+    ensures { OnOk result (string_bytes lines.new ≡ string_bytes lines.old ++ address_lines findings.now) }
+{
+    for finding in findings {
+        let told = address_line(alloc, finding)?;
+        lines.push_str(told.as_str())?;
+    }
+    Ok(())
+}
+
+/// The line of an address that can't be one.
+fn address_line(alloc: Global, finding: &AddressFinding) -> Result<String, AllocError>
+    ensures { IfOk result (λ line. string_bytes line ≡ address_line finding.now) }
+{
+    let said = finding.said(alloc)?;
+    let said = said.as_str();
+    format!(in alloc; "{said}\n")
 }
 
 /// The lines of findings.

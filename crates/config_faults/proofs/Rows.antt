@@ -45,6 +45,8 @@ ranges =
     ∷ record { key = codes "memory_limit_mib"; below = negsuc 0; lowest = 0; greatest = 1048576; above = 1048577 }
     ∷ record { key = codes "max_request_mib"; below = pos 0; lowest = 1; greatest = 64; above = 65 }
     ∷ record { key = codes "maximum_trace_size_bytes"; below = negsuc 0; lowest = 0; greatest = 1073741824; above = 1073741825 }
+    ∷ record { key = codes "output_max_mib"; below = negsuc 0; lowest = 0; greatest = 1048576; above = 1048577 }
+    ∷ record { key = codes "output_keep"; below = pos 0; lowest = 1; greatest = 1000; above = 1001 }
     ∷ record { key = codes "tick_ms"; below = pos 0; lowest = 1; greatest = 60000; above = 60001 }
     ∷ []
 
@@ -106,12 +108,19 @@ second_address_is_a_text = refl
 abbrev pub one_text : (key text : List ℕ) → Members
 one_text key text = member key (string text) no_members
 
+-- the path of the output and the address of numbers alone: any text, and nothing else
+texts_of_any_form : map (each_setting_fault top_settings)
+    (one_text (codes "output") [] ∷ one_text (codes "output") (codes "/var/log/tsc.jsonl") ∷ one_text (codes "metrics") [] ∷ one_text (codes "metrics") (codes "127.0.0.1:9464")
+    ∷ member (codes "output") (boolean true) no_members ∷ member (codes "metrics") (integer (pos 9464)) no_members ∷ [])
+    ≡ None ∷ None ∷ None ∷ None ∷ Some WrongType ∷ Some WrongType ∷ []
+texts_of_any_form = refl
+
 choices_allowed : map (each_setting_fault top_settings) (no_members
     ∷ one_text (codes "queue_full") (codes "partial") ∷ one_text (codes "queue_full") (codes "retry")
-    ∷ one_text (codes "output_fault") (codes "discard") ∷ one_text (codes "output_fault") (codes "stop")
+    ∷ one_text (codes "output_fault") (codes "discard") ∷ one_text (codes "output_fault") (codes "stop") ∷ one_text (codes "output_fault") (codes "retry")
     ∷ one_text (codes "double_values") (codes "discard") ∷ one_text (codes "double_values") (codes "keep")
     ∷ member (codes "close_at_end_of_input") (boolean false) no_members ∷ member (codes "close_at_end_of_input") (boolean true) no_members ∷ [])
-    ≡ None ∷ None ∷ None ∷ None ∷ None ∷ None ∷ None ∷ None ∷ None ∷ []
+    ≡ None ∷ None ∷ None ∷ None ∷ None ∷ None ∷ None ∷ None ∷ None ∷ None ∷ []
 choices_allowed = refl
 
 log_forms : map (each_setting_fault top_settings)
@@ -121,7 +130,7 @@ log_forms = refl
 
 -- another text, an empty one, and one of another key
 choices_refused : map (each_setting_fault top_settings) (one_text (codes "queue_full") (codes "Retry") ∷ one_text (codes "queue_full") [] ∷ one_text (codes "queue_full") (codes "stop")
-    ∷ one_text (codes "output_fault") (codes "stops") ∷ one_text (codes "output_fault") [] ∷ one_text (codes "output_fault") (codes "retry")
+    ∷ one_text (codes "output_fault") (codes "stops") ∷ one_text (codes "output_fault") [] ∷ one_text (codes "output_fault") (codes "partial")
     ∷ one_text (codes "double_values") (codes "kept") ∷ one_text (codes "double_values") [] ∷ one_text (codes "double_values") (codes "stop") ∷ [])
     ≡ Some OutOfRange ∷ Some OutOfRange ∷ Some OutOfRange ∷ Some OutOfRange ∷ Some OutOfRange ∷ Some OutOfRange ∷ Some OutOfRange ∷ Some OutOfRange ∷ Some OutOfRange ∷ []
 choices_refused = refl

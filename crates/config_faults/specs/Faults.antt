@@ -107,6 +107,15 @@ abbrev pub log_fault : Data → Option ConfigFault
 log_fault (string text) = if is_log_form text then None else Some OutOfRange
 log_fault _ = Some WrongType
 
+-- what is done once the output fails
+abbrev pub is_output_fault : (text : List ℕ) → Bool
+is_output_fault text = bytes_eq text (codes "discard") || (bytes_eq text (codes "stop") || bytes_eq text (codes "retry"))
+
+-- one of them is wanted
+abbrev pub output_fault_fault : Data → Option ConfigFault
+output_fault_fault (string text) = if is_output_fault text then None else Some OutOfRange
+output_fault_fault _ = Some WrongType
+
 -- a text that names a type of policy is wanted
 abbrev pub type_fault : Data → Option ConfigFault
 type_fault (string text) = named_fault (type_of (string text))
@@ -171,6 +180,7 @@ wanted_fault value_is.Headers = headers_fault
 wanted_fault value_is.PolicyType = type_fault
 wanted_fault (value_is.Choice key) = choice_fault (choice_row key)
 wanted_fault value_is.LogForm = log_fault
+wanted_fault value_is.OutputFault = output_fault_fault
 wanted_fault value_is.Percentage = percentage_fault
 wanted_fault (value_is.Array kind) = array_fault (item_fault kind)
 

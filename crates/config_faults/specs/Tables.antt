@@ -38,6 +38,8 @@ number_row number_is.MaxConnections = record { name = codes "max_connections"; d
 number_row number_is.MemoryLimit = record { name = codes "memory_limit_mib"; default = 0; lowest = 0; greatest = 1048576 }
 number_row number_is.MaxRequest = record { name = codes "max_request_mib"; default = 4; lowest = 1; greatest = 64 }
 number_row number_is.MaximumTraceSize = record { name = codes "maximum_trace_size_bytes"; default = 0; lowest = 0; greatest = 1073741824 }
+number_row number_is.OutputMax = record { name = codes "output_max_mib"; default = 0; lowest = 0; greatest = 1048576 }
+number_row number_is.OutputKeep = record { name = codes "output_keep"; default = 7; lowest = 1; greatest = 1000 }
 number_row number_is.Tick = record { name = codes "tick_ms"; default = 1000; lowest = 1; greatest = 60000 }
 number_row number_is.SampledCacheSize = record { name = codes "sampled_cache_size"; default = 0; lowest = 0; greatest = 1000000 }
 number_row number_is.NonSampledCacheSize = record { name = codes "non_sampled_cache_size"; default = 0; lowest = 0; greatest = 1000000 }
@@ -57,7 +59,6 @@ pub record ChoiceRow : Type 0 where
 -- the table of the keys of one of two texts
 abbrev pub choice_row : ChoiceKey → ChoiceRow
 choice_row choice_is.QueueFull = record { name = codes "queue_full"; default = codes "partial"; other = codes "retry" }
-choice_row choice_is.OutputFault = record { name = codes "output_fault"; default = codes "discard"; other = codes "stop" }
 choice_row choice_is.DoubleValues = record { name = codes "double_values"; default = codes "discard"; other = codes "keep" }
 
 -- what a key of a text has: its name and its default
@@ -68,6 +69,9 @@ pub record TextRow : Type 0 where
 -- the table of the keys of texts that have a default
 abbrev pub text_row : TextKey → TextRow
 text_row text_is.Listen = record { name = codes "listen"; default = codes "127.0.0.1:4318" }
+text_row text_is.Metrics = record { name = codes "metrics"; default = [] }
+text_row text_is.Output = record { name = codes "output"; default = [] }
+text_row text_is.OutputFault = record { name = codes "output_fault"; default = codes "discard" }
 text_row text_is.Log = record { name = codes "log"; default = codes "text" }
 
 -- the program's default
@@ -97,6 +101,10 @@ text_setting key = defaulted (text_row key).name value_is.Text (string (text_row
 abbrev pub log_setting : TextKey → Setting
 log_setting key = defaulted (text_row key).name value_is.LogForm (string (text_row key).default)
 
+-- of what is done once the output fails
+abbrev pub output_fault_setting : TextKey → Setting
+output_fault_setting key = defaulted (text_row key).name value_is.OutputFault (string (text_row key).default)
+
 -- of one of two names of a number, of which neither has a default of its own
 abbrev pub root_setting : NumberKey → Setting
 root_setting key = optional (number_row key).name (value_is.Integer (pos (number_row key).lowest) (pos (number_row key).greatest))
@@ -123,12 +131,16 @@ other_settings =
     ∷ number_setting number_is.MemoryLimit
     ∷ number_setting number_is.MaxRequest
     ∷ number_setting number_is.MaximumTraceSize
+    ∷ number_setting number_is.OutputMax
+    ∷ number_setting number_is.OutputKeep
     ∷ text_setting text_is.Listen
+    ∷ text_setting text_is.Metrics
+    ∷ text_setting text_is.Output
     ∷ log_setting text_is.Log
     ∷ switch (codes "accept_gzip")
     ∷ switch (codes "sample_on_first_match")
     ∷ choice_setting choice_is.QueueFull
-    ∷ choice_setting choice_is.OutputFault
+    ∷ output_fault_setting text_is.OutputFault
     ∷ choice_setting choice_is.DoubleValues
     ∷ switch (codes "close_at_end_of_input")
     ∷ optional (codes "admin") value_is.Text

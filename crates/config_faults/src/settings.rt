@@ -32,6 +32,8 @@ pub enum ValueKind {
     Choice(ChoiceKey),
     /// A text that names a form of the log: `text`, `json` or `off`.
     LogForm,
+    /// A text that names what is done once the output fails: `discard`, `stop` or `retry`.
+    OutputFault,
     /// A whole number from 0 to 100, or a number between with at most four decimals.
     Percentage,
     /// An array of such items.

@@ -144,6 +144,7 @@ pub fn value_fault(value: &Value, wanted: ValueKind) -> Option<ConfigFault>
         (ValueKind::Array(kind), Value::Array(items)) => items_fault(items, kind),
         (ValueKind::Choice(key), Value::String(text)) => choice_fault(key, text.as_str()),
         (ValueKind::LogForm, Value::String(text)) => log_fault(text.as_str()),
+        (ValueKind::OutputFault, Value::String(text)) => output_fault_fault(text.as_str()),
         (ValueKind::Endpoint, Value::String(text)) => {
             if is_endpoint(text.as_bytes()) {
                 None
@@ -170,6 +171,16 @@ fn log_fault(text: &str) -> Option<ConfigFault>
 {
     match text {
         "text" | "json" | "off" => None,
+        _ => Some(ConfigFault::OutOfRange),
+    }
+}
+
+/// The fault that a text names nothing that is done once the output fails.
+fn output_fault_fault(text: &str) -> Option<ConfigFault>
+    ensures { result ≡ spec.output_fault_fault (string text.now) }
+{
+    match text {
+        "discard" | "stop" | "retry" => None,
         _ => Some(ConfigFault::OutOfRange),
     }
 }

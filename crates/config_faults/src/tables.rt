@@ -21,6 +21,8 @@ pub enum NumberKey {
     MemoryLimit,
     MaxRequest,
     MaximumTraceSize,
+    OutputMax,
+    OutputKeep,
     Tick,
     SampledCacheSize,
     NonSampledCacheSize,
@@ -55,6 +57,8 @@ impl NumberKey {
             NumberKey::MemoryLimit => ("memory_limit_mib", 0, 0, 1_048_576),
             NumberKey::MaxRequest => ("max_request_mib", 4, 1, 64),
             NumberKey::MaximumTraceSize => ("maximum_trace_size_bytes", 0, 0, 1_073_741_824),
+            NumberKey::OutputMax => ("output_max_mib", 0, 0, 1_048_576),
+            NumberKey::OutputKeep => ("output_keep", 7, 1, 1000),
             NumberKey::Tick => ("tick_ms", 1000, 1, 60_000),
             NumberKey::SampledCacheSize => ("sampled_cache_size", 0, 0, 1_000_000),
             NumberKey::NonSampledCacheSize => ("non_sampled_cache_size", 0, 0, 1_000_000),
@@ -72,7 +76,6 @@ impl NumberKey {
 #[derive(Clone, Copy)]
 pub enum ChoiceKey {
     QueueFull,
-    OutputFault,
     DoubleValues,
 }
 
@@ -85,7 +88,6 @@ impl ChoiceKey {
     {
         match self {
             ChoiceKey::QueueFull => ("queue_full", "partial", "retry"),
-            ChoiceKey::OutputFault => ("output_fault", "discard", "stop"),
             ChoiceKey::DoubleValues => ("double_values", "discard", "keep"),
         }
     }
@@ -95,6 +97,9 @@ impl ChoiceKey {
 #[derive(Clone, Copy)]
 pub enum TextKey {
     Listen,
+    Metrics,
+    Output,
+    OutputFault,
     Log,
 }
 
@@ -106,13 +111,16 @@ impl TextKey {
     {
         match self {
             TextKey::Listen => ("listen", "127.0.0.1:4318"),
+            TextKey::Metrics => ("metrics", ""),
+            TextKey::Output => ("output", ""),
+            TextKey::OutputFault => ("output_fault", "discard"),
             TextKey::Log => ("log", "text"),
         }
     }
 }
 
 /// The settings of a configuration that are no tables.
-pub fn top_settings() -> [Setting; 23]
+pub fn top_settings() -> [Setting; 27]
     ensures { map spec.setting_of result ≡ spec.top_settings }
 {
     [
@@ -130,12 +138,16 @@ pub fn top_settings() -> [Setting; 23]
         number_setting(NumberKey::MemoryLimit),
         number_setting(NumberKey::MaxRequest),
         number_setting(NumberKey::MaximumTraceSize),
+        number_setting(NumberKey::OutputMax),
+        number_setting(NumberKey::OutputKeep),
         text_setting(TextKey::Listen),
+        text_setting(TextKey::Metrics),
+        text_setting(TextKey::Output),
         log_setting(TextKey::Log),
         Setting::Default("accept_gzip", ValueKind::Truth, DefaultValue::Off),
         Setting::Default("sample_on_first_match", ValueKind::Truth, DefaultValue::Off),
         choice_setting(ChoiceKey::QueueFull),
-        choice_setting(ChoiceKey::OutputFault),
+        output_fault_setting(TextKey::OutputFault),
         choice_setting(ChoiceKey::DoubleValues),
         Setting::Default("close_at_end_of_input", ValueKind::Truth, DefaultValue::Off),
         Setting::Optional("admin", ValueKind::Text),
@@ -206,4 +218,11 @@ fn log_setting(key: TextKey) -> Setting
 {
     let (name, _) = key.row();
     Setting::Default(name, ValueKind::LogForm, DefaultValue::Text(key))
+}
+
+fn output_fault_setting(key: TextKey) -> Setting
+    ensures { spec.setting_of result ≡ spec.output_fault_setting key }
+{
+    let (name, _) = key.row();
+    Setting::Default(name, ValueKind::OutputFault, DefaultValue::Text(key))
 }

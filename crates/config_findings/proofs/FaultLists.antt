@@ -1,6 +1,6 @@
 -- The list of the faults of a text has each fault that the text has, and no other.
 -- For the contract of `lists_each_fault`.
-use Rattle.std.proofs.Common.{◌≡◌, ◌↔◌, ◌++◌, ℕ, zero, suc, ◌<◌, pos, Bool, true, false, not, ◌||◌, ◌⊎◌, inl, inr, refl, sym, ap, subst, ◌∙◌, arith, append_assoc, append-nil, codes, List, [], ◌∷◌, Contains, Option, None, Some, Result, Ok, Err, IsOk, if◌then◌else◌, nat_lt}
+use Rattle.std.proofs.Common.{◌≡◌, ◌↔◌, ◌++◌, ℕ, zero, suc, ◌<◌, Bool, true, false, not, ◌||◌, ◌⊎◌, inl, inr, refl, sym, ap, subst, arith, append_assoc, append-nil, codes, List, [], ◌∷◌, Contains, Option, None, Some, Result, Ok, Err, IsOk, if◌then◌else◌, nat_lt}
 use Rattle.std.proofs.lemmas.Bool.Decides.{nat_tests}
 use Rattle.std.proofs.lemmas.List.Elements.{Contains-append_left, Contains-append_right, Contains-append_cases}
 use Rattle.std.specs.Result.{result_err}
@@ -15,7 +15,7 @@ use Rattle.policy_tree.specs.declared.policy.Join.TheVariants as join_is
 use Rattle.config_faults.specs.Tables.{top_settings, cache_settings, export_settings}
 use Rattle.config_faults.specs.PolicyTypes.{type_name, settings}
 use Rattle.config_faults.specs.Keys.{has_unknown_key, is_key, type_at, join_type, join_name, sub_key, join_at}
-use Rattle.config_faults.specs.Faults.{optional, required, unknown_fault, text_fault, type_fault, item_fault, wanted_fault, order_fault, twice_fault}
+use Rattle.config_faults.specs.Faults.{required, unknown_fault, text_fault, type_fault, item_fault, wanted_fault, order_fault, twice_fault}
 use Rattle.tsc_config.specs.FaultSets.{IsLeastOf, OptionalHas, RequiredHas, SomeItemHas, ValueHas, KeyHas, SomeSettingHas, TableHas, RowsHave, SettingsHave, SettingsAtHave, TypedHas, PolicyTableHas, PoliciesHave, SomePolicyHas, PolicyHas, PartsHave, PartsSettingsHave, SubPoliciesHave, SubValueHas, CacheHas, ExportHas, HasFault, SomeIsNone, DocumentHas, TextHas}
 use Rattle.config_findings.specs.FaultLists as spec
 use Rattle.config_findings.specs.FaultLists.{ListsAll, listed, unknown_faults, items_faults, value_faults, optional_faults, required_faults, setting_faults, rows_faults, settings_faults, head_settings, is_joined, typed_faults, own_faults, policy_table_faults, table_faults, of_policies, expressions_faults, of_expressions, given_faults, document_faults, text_faults}

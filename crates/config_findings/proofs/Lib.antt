@@ -1,3 +1,6 @@
 mod FaultLists
+mod Slashes
 mod Told
 mod FaultRows
+mod AddressRows
+mod TextRows

@@ -1,14 +1,16 @@
 //! Every fault of the text of a configuration.
 ghost use Rattle.std.specs.Prelude.{◌≡◌, ◌≢◌, ◌⊎◌, ◌++◌, ◌+◌, ◌≤◌, [], Some, IfOk, IsOk, IsErr, OnOk, length};
 ghost use Rattle.config_faults.specs.Faults.{twice_fault};
+ghost use Rattle.config_findings.specs.AddressFindings.{text_addresses};
 ghost use Rattle.config_findings.specs.FaultLists as spec;
 ghost use Rattle.toml.specs.View.{table_view};
 ghost use Rattle.tsc_config.specs.FaultSets.{MayBeTooBig};
 ghost use Rattle.tsc_config.specs.Reading.{reading};
 ghost use Rattle.tsc_config.specs.Values.{config_of};
 
+use crate::address_findings::{AddressFinding, add_addresses};
 use crate::expressions::add_expressions;
-use crate::finding_texts::{policy_fault_text, twice_text};
+use crate::finding_texts::{no_toml_text, policy_fault_text, twice_text};
 use crate::findings::{ConfigFinding, Findings};
 use crate::policy_findings::add_policies;
 use crate::settings_findings::{add_rows, add_settings, add_unknown};
@@ -19,7 +21,18 @@ use config_faults::{
 use policy_tree::Policies;
 use std::alloc::{AllocError, Global};
 use toml::Table;
+use toml::de::Error;
 use tsc_config::{number_at, policies_at};
+
+/// What is told of the text of a configuration.
+#[derive(Drop)]
+pub struct AllFindings {
+    /// Its faults.
+    pub faults: Vec<ConfigFinding>,
+    /// Its addresses that can't be one, which are no fault: only `listen`, `admin`, `metrics` and `endpoint` of
+    /// `export`, in this order.
+    pub addresses: Vec<AddressFinding>,
+}
 
 /// Every fault of the text of a configuration, as `tsc_config::read` reads it: those of its keys and values, a line for
 /// each place that has one, and then those of what they give, where a value with a fault counts as its key's default;
@@ -29,14 +42,32 @@ use tsc_config::{number_at, policies_at};
 /// ([`crate::laws::lists_each_fault`]), or it is read as a configuration that has an expression. `Err` only where
 /// memory was refused.
 #[tactic(auto, using(crate::proofs::Told::none_found))]
-pub fn faults(alloc: Global, text: &str) -> Result<Vec<ConfigFinding>, AllocError>
+pub fn faults(alloc: Global, text: &str) -> Result<AllFindings, AllocError>
+    ensures faults { IfOk result (λ all. spec.Tells text.now (spec.faults_in all.faults.items)) }
+    ensures none { IfOk result (λ all. (all.faults.items ≡ []) → IsOk (reading text.now)) }
+    ensures some { IfOk result (λ all. (all.faults.items ≢ []) → IsErr (reading text.now) ⊎ MayBeTooBig (reading text.now)) }
+    ensures addresses { IfOk result (λ all. all.addresses.items ≡ text_addresses text.now) }
+{
+    let mut addresses = Vec::new(alloc);
+    let faults = all_faults(alloc, text, &mut addresses)?;
+    Ok(AllFindings { faults, addresses })
+}
+
+/// Every fault of a text; adds what is found of its addresses.
+#[tactic(auto, using(crate::proofs::Told::none_found))]
+fn all_faults(
+    alloc: Global,
+    text: &str,
+    addresses: &mut Vec<AddressFinding>,
+) -> Result<Vec<ConfigFinding>, AllocError>
     ensures faults { IfOk result (λ found. spec.Tells text.now (spec.faults_in found.items)) }
     ensures none { IfOk result (λ found. (found.items ≡ []) → IsOk (reading text.now)) }
     ensures some { IfOk result (λ found. (found.items ≢ []) → IsErr (reading text.now) ⊎ MayBeTooBig (reading text.now)) }
+    ensures addresses { IfOk result (λ found. addresses.new.items ≡ addresses.old.items ++ text_addresses text.now) }
 {
     let mut findings = Findings::new(alloc);
     let mut big = Vec::new(alloc);
-    add_faults(alloc, text, &mut findings, &mut big)?;
+    add_faults(alloc, text, &mut findings, &mut big, addresses)?;
     findings.with_big(big)
 }
 
@@ -46,14 +77,31 @@ fn add_faults(
     text: &str,
     findings: &mut Findings,
     big: &mut Vec<String>,
+    addresses: &mut Vec<AddressFinding>,
 ) -> Result<(), AllocError>
     ensures faults { OnOk result (findings.new ≡ findings.old ++ spec.text_faults text.now) }
     ensures big { OnOk result (length big.new.items ≤ length big.old.items + spec.text_expressions text.now) }
+    ensures addresses { OnOk result (addresses.new.items ≡ addresses.old.items ++ text_addresses text.now) }
 {
     match toml::table_from_str(alloc, text) {
-        Ok(table) => add_table(alloc, &table, findings, big),
+        Ok(table) => {
+            add_addresses(&table, addresses)?;
+            add_table(alloc, &table, findings, big)
+        }
         Err(error) if error.is_memory() => Err(AllocError),
-        Err(_) => findings.add(ConfigFault::NotToml, String::from_str(alloc, "not TOML")?),
+        Err(error) => {
+            let said = no_toml_text(alloc, before_fault(text, &error))?;
+            findings.add(ConfigFault::NotToml, said)
+        }
+    }
+}
+
+/// What stands in front of the place where a text was found to be no TOML.
+fn before_fault<'t>(text: &'t str, error: &Error) -> &'t [u8] {
+    let bytes = text.as_bytes();
+    match error.span() {
+        Some(span) if span.start <= bytes.len() => &bytes[..span.start],
+        _ => bytes,
     }
 }
 

@@ -19,7 +19,8 @@ use Rattle.config_faults.specs.declared.keys.TableKind.{TableKind}
 use Rattle.config_faults.specs.declared.keys.TableKind.TheVariants as table_is
 use Rattle.tsc_config.specs.Reading.{reading_of_table}
 use Rattle.tsc_config.specs.declared.log_form.LogForm.{LogForm}
-use Rattle.tsc_config.specs.Values.{bounded_of, number_by, first_found, root_wait_of, cache_size, address_of, truth_of, is_other, log_form_of, export_in, export_of, config_of}
+use Rattle.tsc_config.specs.declared.output_fault.OutputFault.{OutputFault}
+use Rattle.tsc_config.specs.Values.{bounded_of, number_by, first_found, root_wait_of, cache_size, address_of, truth_of, is_other, log_form_of, output_fault_of, export_in, export_of, config_of}
 use Rattle.tsc_config.specs.declared.exports.Export.{Export}
 use Rattle.config_text.specs.Defaults.{number_default, defaults, cache_defaults, export_defaults}
 use Rattle.config_text.specs.Members.{Default, with_default, with_each, with_inner}
@@ -300,10 +301,14 @@ configs_same m =
       number_of number_is.Tick m refl refl refl refl refl,
       plain (List ℕ) (address_of (codes "127.0.0.1:4318")) (codes "listen") (string (codes "127.0.0.1:4318")) m refl refl refl refl refl,
       bare (codes "admin") m refl refl refl refl,
+      plain (List ℕ) (address_of []) (codes "metrics") (string []) m refl refl refl refl refl,
+      plain (List ℕ) (address_of []) (codes "output") (string []) m refl refl refl refl refl,
+      number_of number_is.OutputMax m refl refl refl refl refl,
+      number_of number_is.OutputKeep m refl refl refl refl refl,
+      plain OutputFault output_fault_of (codes "output_fault") (string (codes "discard")) m refl refl refl refl refl,
       plain LogForm log_form_of (codes "log") (string (codes "text")) m refl refl refl refl refl,
       plain Bool truth_of (codes "accept_gzip") (boolean false) m refl refl refl refl refl,
       choice_of choice_is.QueueFull m refl refl refl refl refl,
-      choice_of choice_is.OutputFault m refl refl refl refl refl,
       choice_of choice_is.DoubleValues m refl refl refl refl refl,
       plain Bool truth_of (codes "close_at_end_of_input") (boolean false) m refl refl refl refl refl,
       exported Export export_of m export_of_it,

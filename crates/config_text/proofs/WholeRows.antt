@@ -1,5 +1,5 @@
 -- Worked rows: what some tables have with their defaults.
-use Rattle.std.proofs.Common.{◌≡◌, Some, None, codes, pos, true, false, refl}
+use Rattle.std.proofs.Common.{◌≡◌, [], Some, None, codes, pos, true, false, refl}
 use Rattle.toml.specs.Data.{Members, no_members, member, string, integer, boolean, table, array, no_items, get_member}
 use Rattle.config_text.specs.Whole.{with_defaults}
 
@@ -18,15 +18,19 @@ nothing : with_defaults no_members
     (member (codes "max_request_mib") (integer (pos 4))
     (member (codes "maximum_trace_size_bytes") (integer (pos 0))
     (member (codes "memory_limit_mib") (integer (pos 0))
+    (member (codes "metrics") (string [])
     (member (codes "num_traces") (integer (pos 50000))
+    (member (codes "output") (string [])
     (member (codes "output_fault") (string (codes "discard"))
+    (member (codes "output_keep") (integer (pos 7))
+    (member (codes "output_max_mib") (integer (pos 0))
     (member (codes "queue_capacity") (integer (pos 1024))
     (member (codes "queue_full") (string (codes "partial"))
     (member (codes "root_wait_ms") (integer (pos 0))
     (member (codes "sample_on_first_match") (boolean false)
     (member (codes "send_batch_size") (integer (pos 512))
     (member (codes "shards") (integer (pos 1))
-    (member (codes "tick_ms") (integer (pos 1000)) no_members)))))))))))))))))))))
+    (member (codes "tick_ms") (integer (pos 1000)) no_members)))))))))))))))))))))))))
 unfolding with_defaults
 nothing = refl
 
@@ -69,8 +73,12 @@ served_whole : with_defaults served ≡
     (member (codes "max_request_mib") (integer (pos 20))
     (member (codes "maximum_trace_size_bytes") (integer (pos 0))
     (member (codes "memory_limit_mib") (integer (pos 1024))
+    (member (codes "metrics") (string [])
     (member (codes "num_traces") (integer (pos 100000))
+    (member (codes "output") (string [])
     (member (codes "output_fault") (string (codes "stop"))
+    (member (codes "output_keep") (integer (pos 7))
+    (member (codes "output_max_mib") (integer (pos 0))
     (member (codes "policies") (array no_items)
     (member (codes "queue_capacity") (integer (pos 4096))
     (member (codes "queue_full") (string (codes "retry"))
@@ -78,7 +86,7 @@ served_whole : with_defaults served ≡
     (member (codes "sample_on_first_match") (boolean false)
     (member (codes "send_batch_size") (integer (pos 512))
     (member (codes "shards") (integer (pos 4))
-    (member (codes "tick_ms") (integer (pos 500)) no_members)))))))))))))))))))))))
+    (member (codes "tick_ms") (integer (pos 500)) no_members)))))))))))))))))))))))))))
 unfolding with_defaults served
 served_whole = refl
 

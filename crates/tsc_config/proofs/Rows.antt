@@ -11,12 +11,13 @@ use Rattle.policy_tree.specs.declared.policy.Wanted.TheVariants.{StringAmong, St
 use Rattle.tsc_config.specs.Values.{config_of, leaf_in, salt_by, share_limit, percent_among, bucket}
 use Rattle.tsc_config.specs.declared.config.Config.{Config}
 use Rattle.tsc_config.specs.declared.log_form.LogForm.TheVariants as log_is
+use Rattle.tsc_config.specs.declared.output_fault.OutputFault.TheVariants as output_is
 use Rattle.tsc_config.specs.declared.exports.Export.{Export}
 
 -- the numbers of a configuration: those of the table, and of `decision_cache`
 abbrev numbers_of : Config → List ℕ
 numbers_of c =
-    c.decision_wait ∷ c.root_wait ∷ c.num_traces ∷ c.lanes ∷ c.shards ∷ c.queue_capacity ∷ c.export_capacity ∷ c.send_batch_size ∷ c.max_connections ∷ c.memory_limit_mib ∷ c.max_request_mib ∷ c.maximum_trace_size ∷ c.tick
+    c.decision_wait ∷ c.root_wait ∷ c.num_traces ∷ c.lanes ∷ c.shards ∷ c.queue_capacity ∷ c.export_capacity ∷ c.send_batch_size ∷ c.max_connections ∷ c.memory_limit_mib ∷ c.max_request_mib ∷ c.maximum_trace_size ∷ c.tick ∷ c.output_max_mib ∷ c.output_keep
     ∷ c.sampled_cache_size ∷ c.non_sampled_cache_size ∷ []
 
 -- a table with all keys, each with one of its numbers
@@ -27,7 +28,7 @@ members_of number (r ∷ rows) rest = member r.key (integer (pos (number r))) (m
 abbrev table_of : (Range → ℕ) → Members
 table_of number = members_of number ranges (member (codes "decision_cache") (table (members_of number cache_ranges no_members)) no_members)
 
-defaults : numbers_of (config_of no_members) ≡ 30000 ∷ 0 ∷ 50000 ∷ 1 ∷ 1 ∷ 1024 ∷ 1024 ∷ 512 ∷ 1024 ∷ 0 ∷ 4 ∷ 0 ∷ 1000 ∷ 0 ∷ 0 ∷ []
+defaults : numbers_of (config_of no_members) ≡ 30000 ∷ 0 ∷ 50000 ∷ 1 ∷ 1 ∷ 1024 ∷ 1024 ∷ 512 ∷ 1024 ∷ 0 ∷ 4 ∷ 0 ∷ 1000 ∷ 0 ∷ 7 ∷ 0 ∷ 0 ∷ []
 defaults = refl
 
 no_second_address_by_default : (config_of no_members).admin ≡ []
@@ -43,6 +44,21 @@ listens_by_default = refl
 logs_by : map (λ members. (config_of members).log) (no_members ∷ one_text (codes "log") (codes "text") ∷ one_text (codes "log") (codes "json") ∷ one_text (codes "log") (codes "off") ∷ [])
     ≡ log_is.Text ∷ log_is.Text ∷ log_is.Json ∷ log_is.Off ∷ []
 logs_by = refl
+
+-- what is done once the output fails: by default, and by each of its texts
+at_output_fault : map (λ members. (config_of members).output_fault)
+    (no_members ∷ one_text (codes "output_fault") (codes "discard") ∷ one_text (codes "output_fault") (codes "stop") ∷ one_text (codes "output_fault") (codes "retry") ∷ [])
+    ≡ output_is.Discard ∷ output_is.Discard ∷ output_is.Stop ∷ output_is.Retry ∷ []
+at_output_fault = refl
+
+-- the path of the output and the address of numbers alone: nothing by default, and each by its own key
+texts_of : Config → List (List ℕ)
+texts_of c = c.output ∷ c.metrics ∷ c.admin ∷ []
+
+own_texts : map (λ members. texts_of (config_of members)) (no_members ∷ one_text (codes "output") (codes "a") ∷ one_text (codes "metrics") (codes "b") ∷ one_text (codes "admin") (codes "c") ∷ [])
+    ≡ ([] ∷ [] ∷ [] ∷ []) ∷ (codes "a" ∷ [] ∷ [] ∷ []) ∷ ([] ∷ codes "b" ∷ [] ∷ []) ∷ ([] ∷ [] ∷ codes "c" ∷ []) ∷ []
+unfolding texts_of
+own_texts = refl
 
 -- ten spans a second: one of three equal shares, a quarter, and all; and one share of none
 shares : map (share_limit 10 3) (None ∷ Some 25 ∷ Some 100 ∷ []) ≡ 3 ∷ 2 ∷ 10 ∷ []
@@ -69,25 +85,23 @@ takes_gzip = refl
 
 -- what a key does that takes one of two texts, and the one of a truth value: by default, by each of its values
 abbrev choices_of : Config → List Bool
-choices_of c = c.waits_for_room ∷ c.stops_at_output_fault ∷ c.keeps_doubles ∷ c.close_at_end_of_input ∷ []
+choices_of c = c.waits_for_room ∷ c.keeps_doubles ∷ c.close_at_end_of_input ∷ []
 
 chosen : map (λ members. choices_of (config_of members)) (no_members
     ∷ one_text (codes "queue_full") (codes "partial") ∷ one_text (codes "queue_full") (codes "retry")
-    ∷ one_text (codes "output_fault") (codes "discard") ∷ one_text (codes "output_fault") (codes "stop")
     ∷ one_text (codes "double_values") (codes "discard") ∷ one_text (codes "double_values") (codes "keep")
     ∷ member (codes "close_at_end_of_input") (boolean false) no_members ∷ member (codes "close_at_end_of_input") (boolean true) no_members ∷ [])
-    ≡ (false ∷ false ∷ false ∷ false ∷ [])
-    ∷ (false ∷ false ∷ false ∷ false ∷ []) ∷ (true ∷ false ∷ false ∷ false ∷ [])
-    ∷ (false ∷ false ∷ false ∷ false ∷ []) ∷ (false ∷ true ∷ false ∷ false ∷ [])
-    ∷ (false ∷ false ∷ false ∷ false ∷ []) ∷ (false ∷ false ∷ true ∷ false ∷ [])
-    ∷ (false ∷ false ∷ false ∷ false ∷ []) ∷ (false ∷ false ∷ false ∷ true ∷ []) ∷ []
+    ≡ (false ∷ false ∷ false ∷ [])
+    ∷ (false ∷ false ∷ false ∷ []) ∷ (true ∷ false ∷ false ∷ [])
+    ∷ (false ∷ false ∷ false ∷ []) ∷ (false ∷ true ∷ false ∷ [])
+    ∷ (false ∷ false ∷ false ∷ []) ∷ (false ∷ false ∷ true ∷ []) ∷ []
 chosen = refl
 
 -- each key gives its own number
-lowest_values : numbers_of (config_of (table_of (λ r. r.lowest))) ≡ 1 ∷ 0 ∷ 1 ∷ 1 ∷ 1 ∷ 1 ∷ 1 ∷ 1 ∷ 1 ∷ 0 ∷ 1 ∷ 0 ∷ 1 ∷ 0 ∷ 0 ∷ []
+lowest_values : numbers_of (config_of (table_of (λ r. r.lowest))) ≡ 1 ∷ 0 ∷ 1 ∷ 1 ∷ 1 ∷ 1 ∷ 1 ∷ 1 ∷ 1 ∷ 0 ∷ 1 ∷ 0 ∷ 1 ∷ 0 ∷ 1 ∷ 0 ∷ 0 ∷ []
 lowest_values = refl
 
-greatest_values : numbers_of (config_of (table_of (λ r. r.greatest))) ≡ 3600000 ∷ 3600000 ∷ 1000000 ∷ 64 ∷ 64 ∷ 65536 ∷ 65536 ∷ 8192 ∷ 65536 ∷ 1048576 ∷ 64 ∷ 1073741824 ∷ 60000 ∷ 1000000 ∷ 1000000 ∷ []
+greatest_values : numbers_of (config_of (table_of (λ r. r.greatest))) ≡ 3600000 ∷ 3600000 ∷ 1000000 ∷ 64 ∷ 64 ∷ 65536 ∷ 65536 ∷ 8192 ∷ 65536 ∷ 1048576 ∷ 64 ∷ 1073741824 ∷ 60000 ∷ 1048576 ∷ 1000 ∷ 1000000 ∷ 1000000 ∷ []
 greatest_values = refl
 
 abbrev own_numbers : Members
@@ -105,9 +119,11 @@ own_numbers =
     (member (codes "max_request_mib") (integer (pos 47))
     (member (codes "maximum_trace_size_bytes") (integer (pos 43))
     (member (codes "tick_ms") (integer (pos 23))
-    (member (codes "decision_cache") (table (member (codes "sampled_cache_size") (integer (pos 29)) (member (codes "non_sampled_cache_size") (integer (pos 31)) no_members))) no_members)))))))))))))
+    (member (codes "output_max_mib") (integer (pos 53))
+    (member (codes "output_keep") (integer (pos 59))
+    (member (codes "decision_cache") (table (member (codes "sampled_cache_size") (integer (pos 29)) (member (codes "non_sampled_cache_size") (integer (pos 31)) no_members))) no_members)))))))))))))))
 
-own_values : numbers_of (config_of own_numbers) ≡ 2 ∷ 3 ∷ 5 ∷ 7 ∷ 11 ∷ 13 ∷ 17 ∷ 19 ∷ 37 ∷ 41 ∷ 47 ∷ 43 ∷ 23 ∷ 29 ∷ 31 ∷ []
+own_values : numbers_of (config_of own_numbers) ≡ 2 ∷ 3 ∷ 5 ∷ 7 ∷ 11 ∷ 13 ∷ 17 ∷ 19 ∷ 37 ∷ 41 ∷ 47 ∷ 43 ∷ 23 ∷ 53 ∷ 59 ∷ 29 ∷ 31 ∷ []
 own_values = refl
 
 -- the wait from a root on by each of its two names, and by neither

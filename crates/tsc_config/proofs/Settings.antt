@@ -9,9 +9,9 @@ use Rattle.toml.specs.Data.{Data, string, integer, boolean, table, Members, get_
 use Rattle.toml.specs.Parse.{parse_document}
 use Rattle.policy_tree.specs.Faults.{fault_of_policies}
 use Rattle.policy_tree.specs.declared.fault.PolicyFault.{PolicyFault}
-use Rattle.config_faults.specs.Faults.{config_fault_number, least, optional, required, unknown_fault, integer_fault, text_fault, truth_fault, choice_fault, is_log_form, log_fault, cache_fault, endpoint_fault, field_fault, fields_fault, headers_fault, export_fault, setting_fault, each_setting_fault, policies_fault, table_fault, keys_fault, twice_fault}
+use Rattle.config_faults.specs.Faults.{config_fault_number, least, optional, required, unknown_fault, integer_fault, text_fault, truth_fault, choice_fault, is_log_form, log_fault, is_output_fault, output_fault_fault, cache_fault, endpoint_fault, field_fault, fields_fault, headers_fault, export_fault, setting_fault, each_setting_fault, policies_fault, table_fault, keys_fault, twice_fault}
 use Rattle.config_faults.specs.Setting.{Setting}
-use Rattle.config_faults.specs.Tables.{NumberRow, number_row, ChoiceRow, choice_row, number_setting, root_setting, choice_setting, log_setting, switch, top_settings, cache_settings, export_settings}
+use Rattle.config_faults.specs.Tables.{NumberRow, number_row, ChoiceRow, choice_row, number_setting, root_setting, choice_setting, log_setting, output_fault_setting, switch, top_settings, cache_settings, export_settings}
 use Rattle.config_faults.specs.declared.tables.ChoiceKey.{ChoiceKey}
 use Rattle.config_faults.specs.declared.tables.ChoiceKey.TheVariants as choice_is
 use Rattle.config_faults.specs.declared.tables.TextKey.TheVariants as text_is
@@ -21,10 +21,12 @@ use Rattle.tsc_config.specs.Reading.{expressions_among, some_is_none, reading, r
 use Rattle.config_faults.specs.Exports.{is_endpoint}
 use Rattle.tsc_config.specs.HeaderFields.{value_of, fields_in, headers_of, AreFields}
 use Rattle.config_faults.specs.Headers.{may_be_sent}
-use Rattle.tsc_config.specs.Settings.{IsNumberAtEither, IsTextAt, IsTruthAt, IsChoiceAt, IsLogAt, AreHeadersAt, HasExport, IsExportAt, HasSettings, ReadsSettings}
+use Rattle.tsc_config.specs.Settings.{IsNumberAtEither, IsTextAt, IsTruthAt, IsChoiceAt, IsLogAt, IsOutputFaultAt, AreHeadersAt, HasExport, IsExportAt, HasSettings, ReadsSettings}
 use Rattle.tsc_config.specs.declared.log_form.LogForm.{LogForm}
 use Rattle.tsc_config.specs.declared.log_form.LogForm.TheVariants as log_is
-use Rattle.tsc_config.specs.Values.{config_of, bounded_of, number_by, natural_of, first_found, cache_size, address_of, truth_of, is_other, log_form_of, text_of, number_or, export_in, export_of}
+use Rattle.tsc_config.specs.declared.output_fault.OutputFault.{OutputFault}
+use Rattle.tsc_config.specs.declared.output_fault.OutputFault.TheVariants as output_is
+use Rattle.tsc_config.specs.Values.{config_of, bounded_of, number_by, natural_of, first_found, cache_size, address_of, truth_of, is_other, log_form_of, output_fault_of, text_of, number_or, export_in, export_of}
 use Rattle.tsc_config.specs.declared.config.Config.{Config}
 use Rattle.config_faults.specs.declared.fault.ConfigFault.{ConfigFault}
 use Rattle.config_faults.specs.declared.fault.ConfigFault.TheVariants.{OutOfRange, TooFewTraces, UnknownKey, NotAnExpression}
@@ -153,6 +155,20 @@ log_form given (Some (string bytes)) e f = of (bytes_eq bytes (codes "json")) (b
         inr (inl (rw (← same) e, refl))
 log_form given (Some _) e f = cc
 
+-- what is done once the output fails
+output_fault : (given : Members) (at : Option Data) → get_member (codes "output_fault") given ≡ at → optional output_fault_fault at ≡ None → IsOutputFaultAt given (output_fault_of at)
+output_fault given None e f = inl (e, refl)
+output_fault given (Some (string bytes)) e f = of (bytes_eq bytes (codes "stop")) (bytes_eq bytes (codes "retry")) refl refl
+  where
+    of : (s r : Bool) → bytes_eq bytes (codes "stop") ≡ s → bytes_eq bytes (codes "retry") ≡ r → IsOutputFaultAt given (if s then output_is.Stop else if r then output_is.Retry else output_is.Discard)
+    of true r t u = let same : bytes ≡ codes "stop" = (bytes_eq-Decides bytes (codes "stop")).0 t in inr (inr (inl (rw (← same) e, refl)))
+    of false true t u = let same : bytes ≡ codes "retry" = (bytes_eq-Decides bytes (codes "retry")).0 u in inr (inr (inr (rw (← same) e, refl)))
+    of false false t u =
+        let first : bytes_eq bytes (codes "discard") ≡ true = first_of _ _ (allowed (is_output_fault bytes) f) (ap (λ b. b || bytes_eq bytes (codes "retry")) t ∙ u) in
+        let same : bytes ≡ codes "discard" = (bytes_eq-Decides bytes (codes "discard")).0 first in
+        inr (inl (rw (← same) e, refl))
+output_fault given (Some _) e f = cc
+
 -- a size of the table of caches
 cache : (given : Members) (key : NumberKey) (at : Option Data) → get_member (codes "decision_cache") given ≡ at → optional cache_fault at ≡ None
     → setting_named (number_row key).name cache_settings ≡ Some (number_setting key)
@@ -267,10 +283,14 @@ whole members e =
       listen = text (codes "listen") (codes "127.0.0.1:4318") members (get_member (codes "listen") members) refl (free top_settings members (codes "listen") _ refl f);
       accept_gzip = switched members (codes "accept_gzip") refl f;
       waits_for_room = chosen members choice_is.QueueFull refl f;
-      stops_at_output_fault = chosen members choice_is.OutputFault refl f;
+      output = text (codes "output") [] members (get_member (codes "output") members) refl (free top_settings members (codes "output") _ refl f);
+      output_max_mib = number_in top_settings members number_is.OutputMax refl f;
+      output_keep = number_in top_settings members number_is.OutputKeep refl f;
+      output_fault = output_fault members (get_member (codes "output_fault") members) refl (free top_settings members (codes "output_fault") (output_fault_setting text_is.OutputFault) refl f);
       keeps_doubles = chosen members choice_is.DoubleValues refl f;
       close_at_end_of_input = switched members (codes "close_at_end_of_input") refl f;
       admin = text (codes "admin") [] members (get_member (codes "admin") members) refl (free top_settings members (codes "admin") _ refl f);
+      metrics = text (codes "metrics") [] members (get_member (codes "metrics") members) refl (free top_settings members (codes "metrics") _ refl f);
       log = log_form members (get_member (codes "log") members) refl (free top_settings members (codes "log") (log_setting text_is.Log) refl f);
       export = exports members (get_member (codes "export") members) refl t.2;
     }

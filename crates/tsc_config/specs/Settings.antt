@@ -8,6 +8,8 @@ use Rattle.tsc_config.specs.HeaderFields.{AreFields}
 use Rattle.tsc_config.specs.declared.config.Config.{Config}
 use Rattle.tsc_config.specs.declared.log_form.LogForm.{LogForm}
 use Rattle.tsc_config.specs.declared.log_form.LogForm.TheVariants as log_is
+use Rattle.tsc_config.specs.declared.output_fault.OutputFault.{OutputFault}
+use Rattle.tsc_config.specs.declared.output_fault.OutputFault.TheVariants as output_is
 use Rattle.tsc_config.specs.declared.exports.Export.{Export}
 use Rattle.tsc_config.specs.declared.headers.HeaderField.{HeaderField}
 
@@ -48,6 +50,14 @@ IsLogAt members form =
     ⊎ (((get_member (codes "log") members ≡ Some (string (codes "text"))) × (form ≡ log_is.Text))
     ⊎ (((get_member (codes "log") members ≡ Some (string (codes "json"))) × (form ≡ log_is.Json))
     ⊎ ((get_member (codes "log") members ≡ Some (string (codes "off"))) × (form ≡ log_is.Off))))
+
+-- what is done once the output fails: it is discarded, where its key doesn't stand there; else what the text there names
+abbrev pub IsOutputFaultAt : Members → OutputFault → Type 0
+IsOutputFaultAt members fault =
+    ((get_member (codes "output_fault") members ≡ None) × (fault ≡ output_is.Discard))
+    ⊎ (((get_member (codes "output_fault") members ≡ Some (string (codes "discard"))) × (fault ≡ output_is.Discard))
+    ⊎ (((get_member (codes "output_fault") members ≡ Some (string (codes "stop"))) × (fault ≡ output_is.Stop))
+    ⊎ ((get_member (codes "output_fault") members ≡ Some (string (codes "retry"))) × (fault ≡ output_is.Retry))))
 
 -- the size of a cache of decisions: 0 where there is no table of them; else that of its key there
 abbrev pub IsCacheSize : Members → (key : List ℕ) → (size : ℕ) → Type 0
@@ -101,10 +111,14 @@ pub record HasSettings (members : Members) (config : Config) : Type 0 where
   pub listen : IsTextAt members (codes "listen") (codes "127.0.0.1:4318") config.listen
   pub accept_gzip : IsTruthAt members (codes "accept_gzip") config.accept_gzip
   pub waits_for_room : IsChoiceAt members (codes "queue_full") (codes "partial") (codes "retry") config.waits_for_room
-  pub stops_at_output_fault : IsChoiceAt members (codes "output_fault") (codes "discard") (codes "stop") config.stops_at_output_fault
+  pub output : IsTextAt members (codes "output") [] config.output
+  pub output_max_mib : IsNumberAt members (codes "output_max_mib") 0 0 1048576 config.output_max_mib
+  pub output_keep : IsNumberAt members (codes "output_keep") 7 1 1000 config.output_keep
+  pub output_fault : IsOutputFaultAt members config.output_fault
   pub keeps_doubles : IsChoiceAt members (codes "double_values") (codes "discard") (codes "keep") config.keeps_doubles
   pub close_at_end_of_input : IsTruthAt members (codes "close_at_end_of_input") config.close_at_end_of_input
   pub admin : IsTextAt members (codes "admin") [] config.admin
+  pub metrics : IsTextAt members (codes "metrics") [] config.metrics
   pub log : IsLogAt members config.log
   pub export : IsExportAt members config.export
 

@@ -27,6 +27,8 @@ use Rattle.config_faults.specs.declared.policy_types.PolicyType.TheVariants as t
 use Rattle.tsc_config.specs.declared.config.Config.{Config}
 use Rattle.tsc_config.specs.declared.log_form.LogForm.{LogForm}
 use Rattle.tsc_config.specs.declared.log_form.LogForm.TheVariants as log_is
+use Rattle.tsc_config.specs.declared.output_fault.OutputFault.{OutputFault}
+use Rattle.tsc_config.specs.declared.output_fault.OutputFault.TheVariants as output_is
 use Rattle.tsc_config.specs.declared.exports.Export.{Export}
 
 -- the number of a value, within the bounds of this row; any other value counts as absent
@@ -100,6 +102,15 @@ log_form_named text = if bytes_eq text (codes "json") then log_is.Json else if b
 abbrev pub log_form_of : Option Data → LogForm
 log_form_of (Some (string text)) = log_form_named text
 log_form_of _ = log_is.Text
+
+-- what is done once the output fails, as a text names it
+abbrev pub output_fault_named : (text : List ℕ) → OutputFault
+output_fault_named text = if bytes_eq text (codes "stop") then output_is.Stop else if bytes_eq text (codes "retry") then output_is.Retry else output_is.Discard
+
+-- the same by what stands at its key
+abbrev pub output_fault_of : Option Data → OutputFault
+output_fault_of (Some (string text)) = output_fault_named text
+output_fault_of _ = output_is.Discard
 
 -- one element or none, before others
 abbrev pub found_before : {A : Type 0} → Option A → List A → List A
@@ -406,10 +417,14 @@ config_of members = record {
   tick = number_by (number_row number_is.Tick) members;
   listen = address_of (codes "127.0.0.1:4318") (get_member (codes "listen") members);
   admin = address_of [] (get_member (codes "admin") members);
+  metrics = address_of [] (get_member (codes "metrics") members);
+  output = address_of [] (get_member (codes "output") members);
+  output_max_mib = number_by (number_row number_is.OutputMax) members;
+  output_keep = number_by (number_row number_is.OutputKeep) members;
   log = log_form_of (get_member (codes "log") members);
   accept_gzip = truth_of (get_member (codes "accept_gzip") members);
   waits_for_room = is_other (choice_row choice_is.QueueFull) (get_member (choice_row choice_is.QueueFull).name members);
-  stops_at_output_fault = is_other (choice_row choice_is.OutputFault) (get_member (choice_row choice_is.OutputFault).name members);
+  output_fault = output_fault_of (get_member (codes "output_fault") members);
   keeps_doubles = is_other (choice_row choice_is.DoubleValues) (get_member (choice_row choice_is.DoubleValues).name members);
   close_at_end_of_input = truth_of (get_member (codes "close_at_end_of_input") members);
   export = export_of (get_member (codes "export") members);

@@ -12,8 +12,9 @@ ghost use Rattle.tsc_config.specs.Values.{InRange, config_of};
 use crate::exports::{Export, export_at};
 use crate::expressions::check_expressions;
 use crate::log_form::{LogForm, log_form_at};
+use crate::output_fault::{OutputFault, output_fault_at};
 use crate::settings_values::{number_at, truth_at};
-use crate::values::{addresses_at, cache_size_at, is_other_at, policies_at, root_wait_at};
+use crate::values::{cache_size_at, is_other_at, places_at, policies_at, root_wait_at};
 use config_faults::{ChoiceKey, ConfigFault, NumberKey, table_fault};
 use otlp_types::Text;
 use policy_tree::Policies;
@@ -73,6 +74,17 @@ pub struct Config {
     /// The address at which those in charge close the collector and read its numbers, as `address:port`, or nothing:
     /// then it is closed at the address of requests (this project's option `admin`). It is not looked at here.
     pub admin: Text,
+    /// The address at which the numbers alone are answered, of the form of `admin`, or nothing (this project's option
+    /// `metrics`). It is not looked at here.
+    pub metrics: Text,
+    /// The path of the file behind whose end lines are written, or nothing: then they are printed on standard output
+    /// (this project's option `output`). It is not looked at here.
+    pub output: Text,
+    /// Mebibytes of lines from which on that file is put aside and another one is begun, from 0 to 1048576, where 0 is
+    /// never (this project's option `output_max_mib`).
+    pub output_max_mib: u64,
+    /// How many files that were put aside are kept, from 1 to 1000 (this project's option `output_keep`).
+    pub output_keep: u64,
     /// What is said of a run, beside its lines (this project's option `log`).
     pub log: LogForm,
     /// Whether bodies that are packed by gzip are taken (RFC 9110, section 8.4.1.3; this project's option
@@ -81,9 +93,8 @@ pub struct Config {
     /// Whether a request for whose spans a queue lacks room is to be sent again, in place of being answered how many of
     /// them were discarded (this project's option `queue_full`, `retry`).
     pub waits_for_room: bool,
-    /// Whether the collector stops once its output fails, in place of discarding what comes after (this project's
-    /// option `output_fault`, `stop`).
-    pub stops_at_output_fault: bool,
+    /// What is done once its output fails (this project's option `output_fault`).
+    pub output_fault: OutputFault,
     /// Whether doubles are kept, in place of discarding each attribute that holds one (this project's option
     /// `double_values`, `keep`).
     pub keeps_doubles: bool,
@@ -130,12 +141,13 @@ impl Config {
 /// 8192, else 512; `max_connections`, from 1 to 65536, else 1024; `memory_limit_mib`, from 0 to 1048576, else 0;
 /// `max_request_mib`, from 1 to 64, else 4; `log`, `text`, `json` or `off`, else `text`;
 /// `maximum_trace_size_bytes`, from 0 to 1073741824, else 0; `tick_ms`, from 1 to 60000, else 1000; `listen`, a text,
-/// else `127.0.0.1:4318`; `admin`, a text, else nothing; `accept_gzip` and `close_at_end_of_input`, true or false, else
-/// false; `queue_full`, `partial` or `retry`, else `partial`; `output_fault`, `discard` or `stop`, else `discard`; and
-/// `double_values`, `discard` or `keep`, else `discard`; and `export`, a table with a required `endpoint` ([`Export`]
-/// has its keys), else nothing is sent. Of a `string_attribute` policy `values` are regular expressions where
-/// `enabled_regex_matching` is true (tailsamplingprocessor README); its `cache_max_size`, a whole number from 0, has no
-/// effect.
+/// else `127.0.0.1:4318`; `admin` and `metrics`, texts, else nothing; `output`, a text, else nothing; `output_max_mib`,
+/// from 0 to 1048576, else 0; `output_keep`, from 1 to 1000, else 7; `accept_gzip` and `close_at_end_of_input`, true or
+/// false, else false; `queue_full`, `partial` or `retry`, else `partial`; `output_fault`, `discard`, `stop` or `retry`,
+/// else `discard`; and `double_values`, `discard` or `keep`, else `discard`; and `export`, a table with a required
+/// `endpoint` ([`Export`] has its keys), else nothing is sent. Of a `string_attribute` policy `values` are regular
+/// expressions where `enabled_regex_matching` is true (tailsamplingprocessor README); its `cache_max_size`, a whole
+/// number from 0, has no effect.
 ///
 /// `Err` is the fault of least number that the text has ([`crate::laws::answers_least_fault`]), `NoMemory` where memory
 /// was refused, or `ExpressionTooBig` for a text that has no other fault. For a text of blanks and comments alone these
@@ -186,7 +198,7 @@ fn given_by(alloc: Global, table: &Table, policies: Policies) -> Result<Config, 
     ensures config { IfOk result (λ config. config ≡ record (config_of (table_view table.now)) { policies = policies }) }
     ensures ranges { IfOk result (λ config. config.shards ≤ config.num_traces → InRange config) }
 {
-    let (listen, admin) = addresses_at(alloc, table)?;
+    let places = places_at(alloc, table)?;
     Ok(Config {
         decision_wait: number_at(table, NumberKey::DecisionWait),
         root_wait: root_wait_at(table),
@@ -204,12 +216,16 @@ fn given_by(alloc: Global, table: &Table, policies: Policies) -> Result<Config, 
         max_request_mib: number_at(table, NumberKey::MaxRequest),
         maximum_trace_size: number_at(table, NumberKey::MaximumTraceSize),
         tick: number_at(table, NumberKey::Tick),
-        listen,
-        admin,
+        listen: places.listen,
+        admin: places.admin,
+        metrics: places.metrics,
+        output: places.output,
+        output_max_mib: number_at(table, NumberKey::OutputMax),
+        output_keep: number_at(table, NumberKey::OutputKeep),
         log: log_form_at(table),
         accept_gzip: truth_at(table, "accept_gzip"),
         waits_for_room: is_other_at(table, ChoiceKey::QueueFull),
-        stops_at_output_fault: is_other_at(table, ChoiceKey::OutputFault),
+        output_fault: output_fault_at(table),
         keeps_doubles: is_other_at(table, ChoiceKey::DoubleValues),
         close_at_end_of_input: truth_at(table, "close_at_end_of_input"),
         export: export_at(alloc, table)?,

@@ -20,6 +20,7 @@ mod expressions;
 mod headers;
 pub mod laws;
 mod log_form;
+mod output_fault;
 mod settings_values;
 mod values;
 
@@ -27,5 +28,6 @@ pub use config::{Config, read};
 pub use exports::Export;
 pub use headers::HeaderField;
 pub use log_form::LogForm;
+pub use output_fault::OutputFault;
 pub use settings_values::number_at;
 pub use values::policies_at;

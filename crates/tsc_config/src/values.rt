@@ -29,14 +29,32 @@ pub fn root_wait_at(table: &Table) -> u64
     }
 }
 
-/// The two addresses: that of requests, and that for those in charge.
-pub fn addresses_at(alloc: Global, table: &Table) -> Result<(Text, Text), AllocError>
-    ensures listen { IfOk result (λ addresses. addresses.0 ≡ spec.address_of (codes "127.0.0.1:4318") (get_member (codes "listen") (table_view table.now))) }
-    ensures admin { IfOk result (λ addresses. addresses.1 ≡ spec.address_of [] (get_member (codes "admin") (table_view table.now))) }
+/// The addresses of a collector, and the path of its output.
+#[derive(Drop)]
+pub struct Places {
+    /// Where requests are taken.
+    pub listen: Text,
+    /// Where those in charge are answered.
+    pub admin: Text,
+    /// Where the numbers alone are answered.
+    pub metrics: Text,
+    /// The file of the output.
+    pub output: Text,
+}
+
+/// The addresses of a collector, and the path of its output.
+pub fn places_at(alloc: Global, table: &Table) -> Result<Places, AllocError>
+    ensures listen { IfOk result (λ places. places.listen ≡ spec.address_of (codes "127.0.0.1:4318") (get_member (codes "listen") (table_view table.now))) }
+    ensures admin { IfOk result (λ places. places.admin ≡ spec.address_of [] (get_member (codes "admin") (table_view table.now))) }
+    ensures metrics { IfOk result (λ places. places.metrics ≡ spec.address_of [] (get_member (codes "metrics") (table_view table.now))) }
+    ensures output { IfOk result (λ places. places.output ≡ spec.address_of [] (get_member (codes "output") (table_view table.now))) }
 {
-    let listen = address_at(alloc, table, "listen", "127.0.0.1:4318")?;
-    let admin = address_at(alloc, table, "admin", "")?;
-    Ok((listen, admin))
+    Ok(Places {
+        listen: address_at(alloc, table, "listen", "127.0.0.1:4318")?,
+        admin: address_at(alloc, table, "admin", "")?,
+        metrics: address_at(alloc, table, "metrics", "")?,
+        output: address_at(alloc, table, "output", "")?,
+    })
 }
 
 /// The text at a key, or its default.
