@@ -11,6 +11,7 @@ use Rattle.http_text.specs.Search.{Searched}
 use Rattle.http_text.specs.declared.request.TheConstants.{FIELD_LIMIT}
 use Rattle.http_text.specs.declared.request.HeadVerdict.{HeadVerdict}
 use Rattle.http_text.specs.declared.search.SearchPlace.TheVariants.{Blank}
+use Rattle.admin_http.specs.declared.asked.Access.{Access}
 use Rattle.admin_http.specs.declared.asked.AdminRequest.{AdminRequest}
 use Rattle.admin_http.specs.Asked.{HeardBy, IsHeard, refused_as, nothing}
 
@@ -34,5 +35,5 @@ pub from_blank : (read : List ℕ) → Searched head_len (record { at = 0; place
 from_blank read = (omega arith, λ ys. none_more (head_len ys))
 
 -- what was heard, by where the head ends
-pub heard_at : (read : List ℕ) (c : Cut) (heard : Option AdminRequest) → cut head_len read ≡ c → HeardBy c read heard → IsHeard read heard
-heard_at read c heard e h = subst (λ k. HeardBy k read heard) (sym e) h
+pub heard_at : (access : Access) (read : List ℕ) (c : Cut) (heard : Option AdminRequest) → cut head_len read ≡ c → HeardBy access c read heard → IsHeard access read heard
+heard_at access read c heard e h = subst (λ k. HeardBy access k read heard) (sym e) h

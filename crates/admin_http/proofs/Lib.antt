@@ -1,4 +1,5 @@
 pub mod Heads
+pub mod Harmless
 pub mod Pieces
 pub mod Laws
 pub mod Rows

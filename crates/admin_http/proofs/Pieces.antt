@@ -5,6 +5,7 @@ use Rattle.std.specs.Io.KnownBytes.{Consumes}
 use Rattle.std.proofs.KnownBytes.{Consumes-trans}
 use Rattle.http_text.specs.Lines.{Cut, Whole, Waits, TooLong, cut, head_len}
 use Rattle.admin_http.specs.Asked.{HeardBy, IsHeard}
+use Rattle.admin_http.specs.declared.asked.Access.{Access}
 
 -- more was read
 pub read_on : (a b c : Option (List ℕ)) (read more now : List ℕ) → Consumes a b read → Consumes b c more → now ≡ read ++ more → Consumes a c now
@@ -19,11 +20,11 @@ pub still_waits : (a b c : Option (List ℕ)) (read : List ℕ) → Consumes a b
     → cut head_len read ≡ Waits → (heard : List ℕ) × Consumes a c heard × (cut head_len heard ≡ Waits)
 still_waits a b c read x y waits = (read, read_still a b c read read x y refl, waits)
 
-waits_by : (c : Cut) (read : List ℕ) → HeardBy c read None → c ≡ Waits
-waits_by (Whole n) read h = absurd h
-waits_by Waits read h = refl
-waits_by TooLong read h = absurd h
+waits_by : (access : Access) (c : Cut) (read : List ℕ) → HeardBy access c read None → c ≡ Waits
+waits_by access (Whole n) read h = absurd h
+waits_by access Waits read h = refl
+waits_by access TooLong read h = absurd h
 
 -- nothing was heard, so that the head isn't whole
-pub unheard_waits : (read : List ℕ) → IsHeard read None → cut head_len read ≡ Waits
-unheard_waits read h = waits_by (cut head_len read) read h
+pub unheard_waits : (access : Access) (read : List ℕ) → IsHeard access read None → cut head_len read ≡ Waits
+unheard_waits access read h = waits_by access (cut head_len read) read h

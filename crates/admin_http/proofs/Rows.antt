@@ -10,22 +10,40 @@ use Rattle.http_text.specs.declared.request.HeadVerdict.TheVariants.{Refused, Cl
 use Rattle.http_text.specs.Fields.{Header, is_foreign}
 use Rattle.http_text.specs.Head.{verdict_by}
 use Rattle.admin_http.specs.declared.asked.Method.TheVariants.{Get, Post}
+use Rattle.admin_http.specs.declared.asked.Access.TheVariants.{Full, Numbers}
 use Rattle.admin_http.specs.declared.asked.Route.{Route}
-use Rattle.admin_http.specs.declared.asked.Route.TheVariants.{Close, Metrics, Health, Config, Forbidden, NotFound, WrongMethod, Bad, TooLarge}
+use Rattle.admin_http.specs.declared.asked.Route.TheVariants.{Close, Reopen, Metrics, Health, Config, Forbidden, NotFound, WrongMethod, Bad, TooLarge}
 use Rattle.admin_http.specs.declared.ends.TheConstants.{PIECE_LIMIT, QUIET_LIMIT, READ_LIMIT}
 use Rattle.admin_http.specs.declared.asked.AdminRequest.{AdminRequest}
-use Rattle.admin_http.specs.Asked.{asked, asked_by, refused_as, routed, nothing}
+use Rattle.admin_http.specs.Asked.{asked, asked_by, numbers_routed, refused_as, routed, nothing}
+use Rattle.admin_http.specs.Serving.{closes, is_harmless, reopens}
 use Rattle.admin_http.specs.Texts.{AdminState, answer_of, state}
 
--- the four targets, each by its method
-four_targets : routed (codes "POST") (codes "/close")
-    ∷ map (routed (codes "GET")) (codes "/metrics" ∷ codes "/healthz" ∷ codes "/config" ∷ [])
-    ≡ Close ∷ Metrics ∷ Health ∷ Config ∷ []
-four_targets = refl
+-- the five targets, each by its method
+five_targets : map (routed (codes "POST")) (codes "/close" ∷ codes "/reopen" ∷ [])
+    ++ map (routed (codes "GET")) (codes "/metrics" ∷ codes "/healthz" ∷ codes "/config" ∷ [])
+    ≡ Close ∷ Reopen ∷ Metrics ∷ Health ∷ Config ∷ []
+five_targets = refl
+
+-- where numbers alone may be asked for: two of them, and no other is there, by any method
+two_targets : map (numbers_routed (codes "GET")) (codes "/metrics" ∷ codes "/healthz" ∷ codes "/config" ∷ codes "/close" ∷ codes "/reopen" ∷ codes "/metrics/" ∷ [])
+    ++ map (numbers_routed (codes "POST")) (codes "/metrics" ∷ codes "/healthz" ∷ codes "/config" ∷ codes "/close" ∷ codes "/reopen" ∷ [])
+    ≡ Metrics ∷ Health ∷ NotFound ∷ NotFound ∷ NotFound ∷ NotFound
+    ∷ WrongMethod Get ∷ WrongMethod Get ∷ NotFound ∷ NotFound ∷ NotFound ∷ []
+two_targets = refl
+
+-- nothing there has power, so nothing is forbidden
+numbers_asked : asked_by Numbers (codes "POST") (codes "/close") false ∷ asked_by Numbers (codes "POST") (codes "/close") true
+    ∷ asked_by Numbers (codes "POST") (codes "/metrics") true ∷ asked_by Numbers (codes "GET") (codes "/metrics") true
+    ∷ asked_by Numbers (codes "HEAD") (codes "/healthz") false ∷ []
+    ≡ asked NotFound false ∷ asked NotFound false
+    ∷ asked (WrongMethod Get) false ∷ asked Metrics false
+    ∷ asked (WrongMethod Get) true ∷ []
+numbers_asked = refl
 
 -- by another method; a method is told by its case, and `HEAD` is another method than `GET`
-other_methods : routed (codes "GET") (codes "/close") ∷ routed (codes "POST") (codes "/metrics") ∷ routed (codes "PUT") (codes "/healthz") ∷ routed (codes "DELETE") (codes "/config") ∷ []
-    ≡ WrongMethod Post ∷ WrongMethod Get ∷ WrongMethod Get ∷ WrongMethod Get ∷ []
+other_methods : routed (codes "GET") (codes "/close") ∷ routed (codes "PUT") (codes "/reopen") ∷ routed (codes "POST") (codes "/metrics") ∷ routed (codes "PUT") (codes "/healthz") ∷ routed (codes "DELETE") (codes "/config") ∷ []
+    ≡ WrongMethod Post ∷ WrongMethod Post ∷ WrongMethod Get ∷ WrongMethod Get ∷ WrongMethod Get ∷ []
 other_methods = refl
 
 near_methods : routed (codes "get") (codes "/metrics") ∷ routed (codes "GETS") (codes "/metrics") ∷ routed (codes "Post") (codes "/close") ∷ routed (codes "HEAD") (codes "/healthz") ∷ []
@@ -38,27 +56,38 @@ near_targets : map (routed (codes "GET"))
     ≡ NotFound ∷ NotFound ∷ NotFound ∷ NotFound ∷ NotFound ∷ NotFound ∷ NotFound ∷ NotFound ∷ NotFound ∷ NotFound ∷ []
 near_targets = refl
 
-traces_there : routed (codes "POST") (codes "/v1/traces") ∷ routed (codes "POST") (codes "/close/") ∷ routed (codes "POST") (codes "/close?now") ∷ []
-    ≡ NotFound ∷ NotFound ∷ NotFound ∷ []
+traces_there : routed (codes "POST") (codes "/v1/traces") ∷ routed (codes "POST") (codes "/close/") ∷ routed (codes "POST") (codes "/close?now") ∷ routed (codes "POST") (codes "/Reopen") ∷ []
+    ≡ NotFound ∷ NotFound ∷ NotFound ∷ NotFound ∷ []
 traces_there = refl
 
 -- the answer to `HEAD` has no body, whatever it asks for
-heads : asked_by (codes "HEAD") (codes "/metrics") false ∷ asked_by (codes "HEAD") (codes "/other") true ∷ asked_by (codes "GET") (codes "/other") false ∷ []
+heads : asked_by Full (codes "HEAD") (codes "/metrics") false ∷ asked_by Full (codes "HEAD") (codes "/other") true ∷ asked_by Full (codes "GET") (codes "/other") false ∷ []
     ≡ asked (WrongMethod Get) true ∷ asked NotFound true ∷ asked NotFound false ∷ []
 heads = refl
 
 -- what a page of another site may have sent: a `POST` is refused, whatever it asks for; what only tells is answered
-of_another_site : asked_by (codes "POST") (codes "/close") true ∷ asked_by (codes "POST") (codes "/metrics") true ∷ asked_by (codes "POST") (codes "/other") true
-    ∷ asked_by (codes "GET") (codes "/metrics") true ∷ asked_by (codes "GET") (codes "/healthz") true ∷ asked_by (codes "GET") (codes "/close") true
-    ∷ asked_by (codes "POST") (codes "/close") false ∷ []
+of_another_site : asked_by Full (codes "POST") (codes "/close") true ∷ asked_by Full (codes "POST") (codes "/metrics") true ∷ asked_by Full (codes "POST") (codes "/other") true
+    ∷ asked_by Full (codes "GET") (codes "/metrics") true ∷ asked_by Full (codes "GET") (codes "/healthz") true ∷ asked_by Full (codes "GET") (codes "/close") true
+    ∷ asked_by Full (codes "POST") (codes "/close") false ∷ asked_by Full (codes "POST") (codes "/reopen") true ∷ asked_by Full (codes "POST") (codes "/reopen") false ∷ []
     ≡ asked Forbidden false ∷ asked Forbidden false ∷ asked Forbidden false
     ∷ asked Metrics false ∷ asked Health false ∷ asked (WrongMethod Post) false
-    ∷ asked Close false ∷ []
+    ∷ asked Close false ∷ asked Forbidden false ∷ asked Reopen false ∷ []
 of_another_site = refl
+
+-- which routes have power, and which are harmless: one that asks for the configuration has none, and isn't
+routes : List Route
+routes = Close ∷ Reopen ∷ Metrics ∷ Health ∷ Config ∷ Forbidden ∷ NotFound ∷ WrongMethod Get ∷ WrongMethod Post ∷ Bad ∷ TooLarge ∷ []
+
+powers : map closes routes ++ (map reopens routes ++ map is_harmless routes)
+    ≡ (true ∷ false ∷ false ∷ false ∷ false ∷ false ∷ false ∷ false ∷ false ∷ false ∷ false ∷ [])
+    ++ ((false ∷ true ∷ false ∷ false ∷ false ∷ false ∷ false ∷ false ∷ false ∷ false ∷ false ∷ [])
+    ++ (false ∷ false ∷ true ∷ true ∷ false ∷ true ∷ true ∷ true ∷ true ∷ true ∷ true ∷ []))
+unfolding routes
+powers = refl
 
 -- by its fields
 close_of : Header → List Header → AdminRequest
-close_of named fields = asked_by (codes "POST") (codes "/close") (is_foreign (named ∷ fields))
+close_of named fields = asked_by Full (codes "POST") (codes "/close") (is_foreign (named ∷ fields))
 
 own_address : Header
 own_address = (codes "Host", codes "127.0.0.1:4319")
@@ -108,7 +137,8 @@ answered route s = answer_of (asked route false) s
 
 -- of the collector; the numbers are told, too, while it closes
 of_the_collector : answered Metrics open_state ∷ answered Health open_state ∷ answered Config open_state
-    ∷ answered Close closing_state ∷ answered Metrics closing_state ∷ answered Health closing_state ∷ []
+    ∷ answered Close closing_state ∷ answered Metrics closing_state ∷ answered Health closing_state
+    ∷ answered Reopen open_state ∷ []
     ≡ (codes "HTTP/1.1 200 OK\r\nContent-Type: text/plain; version=0.0.4; charset=utf-8\r\nContent-Length: 4\r\n"
     ++ codes "Connection: close\r\n\r\nm 1\n")
     ∷ codes "HTTP/1.1 200 OK\r\nContent-Type: text/plain\r\nContent-Length: 3\r\nConnection: close\r\n\r\nok\n"
@@ -118,7 +148,8 @@ of_the_collector : answered Metrics open_state ∷ answered Health open_state �
     ∷ (codes "HTTP/1.1 200 OK\r\nContent-Type: text/plain; version=0.0.4; charset=utf-8\r\nContent-Length: 5\r\n"
     ++ codes "Connection: close\r\n\r\nm 22\n")
     ∷ (codes "HTTP/1.1 503 Service Unavailable\r\nContent-Type: text/plain\r\nContent-Length: 8\r\n"
-    ++ codes "Connection: close\r\n\r\nclosing\n") ∷ []
+    ++ codes "Connection: close\r\n\r\nclosing\n")
+    ∷ codes "HTTP/1.1 200 OK\r\nContent-Type: application/json\r\nContent-Length: 2\r\nConnection: close\r\n\r\n{}" ∷ []
 unfolding answered digits open_state closing_state
 of_the_collector = refl
 

@@ -11,8 +11,10 @@ use Rattle.http_text.specs.declared.request.HeadVerdict.TheVariants.{Refused}
 use Rattle.http_text.specs.declared.request.RequestRefusal.TheVariants.{BadRequest, HeadTooLarge}
 use Rattle.admin_http.specs.declared.asked.Method.{Method}
 use Rattle.admin_http.specs.declared.asked.Method.TheVariants.{Get, Post}
+use Rattle.admin_http.specs.declared.asked.Access.{Access}
+use Rattle.admin_http.specs.declared.asked.Access.TheVariants.{Full, Numbers}
 use Rattle.admin_http.specs.declared.asked.Route.{Route}
-use Rattle.admin_http.specs.declared.asked.Route.TheVariants.{Close, Metrics, Health, Config, Forbidden, NotFound, WrongMethod, Bad, TooLarge}
+use Rattle.admin_http.specs.declared.asked.Route.TheVariants.{Close, Reopen, Metrics, Health, Config, Forbidden, NotFound, WrongMethod, Bad, TooLarge}
 use Rattle.admin_http.specs.declared.asked.AdminRequest.{AdminRequest}
 
 -- the word of a method
@@ -24,25 +26,32 @@ method_word Post = codes "POST"
 abbrev pub only_by : Method → (method : List ℕ) → Route → Route
 only_by allowed method route = if bytes_eq method (method_word allowed) then route else WrongMethod allowed
 
--- where a request goes, by its method and its target, byte for byte
+-- where a request for numbers or health goes, by its method and its target, byte for byte
+abbrev pub numbers_routed : (method target : List ℕ) → Route
+numbers_routed method target =
+    if bytes_eq target (codes "/metrics") then only_by Get method Metrics
+    else (if bytes_eq target (codes "/healthz") then only_by Get method Health
+    else NotFound)
+
+-- where one goes at an address at which everything may be asked for
 abbrev pub routed : (method target : List ℕ) → Route
 routed method target =
     if bytes_eq target (codes "/close") then only_by Post method Close
-    else (if bytes_eq target (codes "/metrics") then only_by Get method Metrics
-    else (if bytes_eq target (codes "/healthz") then only_by Get method Health
+    else (if bytes_eq target (codes "/reopen") then only_by Post method Reopen
     else (if bytes_eq target (codes "/config") then only_by Get method Config
-    else NotFound)))
+    else numbers_routed method target))
 
 -- the answer to `HEAD` has no body
 abbrev pub asked : Route → (is_head : Bool) → AdminRequest
 asked route is_head = record { route = route; is_head = is_head }
 
 -- what has power is asked by `POST`, and refused where a page of another site may have sent the request
-abbrev pub route_by : (method target : List ℕ) → (foreign : Bool) → Route
-route_by method target foreign = if foreign && bytes_eq method (codes "POST") then Forbidden else routed method target
+abbrev pub route_by : Access → (method target : List ℕ) → (foreign : Bool) → Route
+route_by Full method target foreign = if foreign && bytes_eq method (codes "POST") then Forbidden else routed method target
+route_by Numbers method target foreign = numbers_routed method target
 
-abbrev pub asked_by : (method target : List ℕ) → (foreign : Bool) → AdminRequest
-asked_by method target foreign = asked (route_by method target foreign) (bytes_eq method (codes "HEAD"))
+abbrev pub asked_by : Access → (method target : List ℕ) → (foreign : Bool) → AdminRequest
+asked_by access method target foreign = asked (route_by access method target foreign) (bytes_eq method (codes "HEAD"))
 
 -- a text that is refused as no head, or as too large a one, at the address of the traces is so here
 abbrev pub refused_as : HeadVerdict → Option AdminRequest
@@ -51,34 +60,34 @@ refused_as (Refused BadRequest is_head) = Some (asked Bad is_head)
 refused_as _ = None
 
 -- any other text is a head, which asks by its method, its target and where it comes from
-abbrev pub AskedAs : (text : List ℕ) → Option AdminRequest → AdminRequest → Type 0
-AskedAs text (Some refused) a = a ≡ refused
-AskedAs text None a = (h : RequestHead) × IsHead text h × (a ≡ asked_by h.method h.target (is_foreign (map name_and_value h.fields)))
+abbrev pub AskedAs : Access → (text : List ℕ) → Option AdminRequest → AdminRequest → Type 0
+AskedAs access text (Some refused) a = a ≡ refused
+AskedAs access text None a = (h : RequestHead) × IsHead text h × (a ≡ asked_by access h.method h.target (is_foreign (map name_and_value h.fields)))
 
 -- what is allowed at the address of the traces makes no difference here
 abbrev pub nothing : Allowed
 nothing = record { gzip = false; close = false; body_limit = 0 }
 
 -- what the text of a head asks for
-abbrev pub IsAsked : (text : List ℕ) → AdminRequest → Type 0
-IsAsked text a = (v : HeadVerdict) × IsVerdict nothing text v × AskedAs text (refused_as v) a
+abbrev pub IsAsked : Access → (text : List ℕ) → AdminRequest → Type 0
+IsAsked access text a = (v : HeadVerdict) × IsVerdict nothing text v × AskedAs access text (refused_as v) a
 
 -- what was read so far asks for this, or its head isn't whole yet
-abbrev pub HeardBy : Cut → (read : List ℕ) → Option AdminRequest → Type 0
-HeardBy (Whole n) read (Some a) = IsAsked (take n read) a
-HeardBy (Whole n) read None = ⊥
-HeardBy TooLong read (Some a) = a ≡ asked TooLarge false
-HeardBy TooLong read None = ⊥
-HeardBy Waits read (Some a) = ⊥
-HeardBy Waits read None = Unit {0}
+abbrev pub HeardBy : Access → Cut → (read : List ℕ) → Option AdminRequest → Type 0
+HeardBy access (Whole n) read (Some a) = IsAsked access (take n read) a
+HeardBy access (Whole n) read None = ⊥
+HeardBy access TooLong read (Some a) = a ≡ asked TooLarge false
+HeardBy access TooLong read None = ⊥
+HeardBy access Waits read (Some a) = ⊥
+HeardBy access Waits read None = Unit {0}
 
-abbrev pub IsHeard : (read : List ℕ) → Option AdminRequest → Type 0
-IsHeard read heard = HeardBy (cut head_len read) read heard
+abbrev pub IsHeard : Access → (read : List ℕ) → Option AdminRequest → Type 0
+IsHeard access read heard = HeardBy access (cut head_len read) read heard
 
 -- the bytes that were read ask for one thing only
 abbrev pub OneRequest : Type 0
-OneRequest = (read : List ℕ) (a b : Option AdminRequest) → IsHeard read a → IsHeard read b → a ≡ b
+OneRequest = (access : Access) (read : List ℕ) (a b : Option AdminRequest) → IsHeard access read a → IsHeard access read b → a ≡ b
 
 -- what was heard stays, whatever bytes follow
 abbrev pub StaysHeard : Type 0
-StaysHeard = (read more : List ℕ) (a : AdminRequest) → IsHeard read (Some a) → IsHeard (read ++ more) (Some a)
+StaysHeard = (access : Access) (read more : List ℕ) (a : AdminRequest) → IsHeard access read (Some a) → IsHeard access (read ++ more) (Some a)

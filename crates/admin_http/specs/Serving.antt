@@ -3,8 +3,9 @@ use Rattle.std.specs.Prelude.{◌≡◌, ℕ, ◌<◌, Bool, true, false, List, 
 use Rattle.std.specs.Io.KnownBytes.{Appends, Consumes, IsAtEnd}
 use Rattle.http_text.specs.Lines.{Waits, cut, head_len}
 use Rattle.admin_http.specs.declared.asked.AdminRequest.{AdminRequest}
+use Rattle.admin_http.specs.declared.asked.Access.{Access}
 use Rattle.admin_http.specs.declared.asked.Route.{Route}
-use Rattle.admin_http.specs.declared.asked.Route.TheVariants.{Close, Metrics}
+use Rattle.admin_http.specs.declared.asked.Route.TheVariants.{Close, Reopen, Metrics, Config}
 use Rattle.admin_http.specs.declared.ends.AdminEnd.{AdminEnd}
 use Rattle.admin_http.specs.declared.ends.AdminEnd.TheVariants.{Heard, Unheard}
 use Rattle.admin_http.specs.declared.ends.Portion.{Portion}
@@ -61,21 +62,21 @@ IsSilent left read Cut = (cut head_len read ≡ Waits) × IsAtEnd left
 IsSilent left read _ = cut head_len read ≡ Waits
 
 -- what was heard in the bytes that were read
-abbrev pub HearsIn : (left : Option (List ℕ)) → (read : List ℕ) → Result AdminRequest Silence → Type 0
-HearsIn left read (Ok asked) = IsHeard read (Some asked)
-HearsIn left read (Err silence) = IsSilent left read silence
+abbrev pub HearsIn : Access → (left : Option (List ℕ)) → (read : List ℕ) → Result AdminRequest Silence → Type 0
+HearsIn access left read (Ok asked) = IsHeard access read (Some asked)
+HearsIn access left read (Err silence) = IsSilent left read silence
 
-abbrev pub Hears : (left left_after : Option (List ℕ)) → Result AdminRequest Silence → Type 0
-Hears left left_after heard = (read : List ℕ) × Consumes left left_after read × HearsIn left_after read heard
+abbrev pub Hears : Access → (left left_after : Option (List ℕ)) → Result AdminRequest Silence → Type 0
+Hears access left left_after heard = (read : List ℕ) × Consumes left left_after read × HearsIn access left_after read heard
 
 -- the end of a connection in which this was read: a request was answered, or none was heard and nothing was written
-abbrev pub EndsWith : (stops : Bool → Type 0) (tells : List ℕ → Type 0) (configuration : List ℕ) (left_after old new : Option (List ℕ)) → (read : List ℕ) → AdminEnd → Type 0
-EndsWith stops tells configuration left_after old new read (Heard asked sent) = IsHeard read (Some asked) × Responds stops tells configuration old new asked sent
-EndsWith stops tells configuration left_after old new read (Unheard silence) = IsSilent left_after read silence × (new ≡ old)
+abbrev pub EndsWith : Access → (stops : Bool → Type 0) (tells : List ℕ → Type 0) (configuration : List ℕ) (left_after old new : Option (List ℕ)) → (read : List ℕ) → AdminEnd → Type 0
+EndsWith access stops tells configuration left_after old new read (Heard asked sent) = IsHeard access read (Some asked) × Responds stops tells configuration old new asked sent
+EndsWith access stops tells configuration left_after old new read (Unheard silence) = IsSilent left_after read silence × (new ≡ old)
 
-abbrev pub Served : (stops : Bool → Type 0) (tells : List ℕ → Type 0) (configuration : List ℕ) (left left_after old new : Option (List ℕ)) → AdminEnd → Type 0
-Served stops tells configuration left left_after old new end =
-    (read : List ℕ) × Consumes left left_after read × EndsWith stops tells configuration left_after old new read end
+abbrev pub Served : Access → (stops : Bool → Type 0) (tells : List ℕ → Type 0) (configuration : List ℕ) (left left_after old new : Option (List ℕ)) → AdminEnd → Type 0
+Served access stops tells configuration left left_after old new end =
+    (read : List ℕ) × Consumes left left_after read × EndsWith access stops tells configuration left_after old new read end
 
 -- the request asked the collector to close
 abbrev pub closes : Route → Bool
@@ -85,3 +86,23 @@ closes _ = false
 abbrev pub asked_to_close : AdminEnd → Bool
 asked_to_close (Heard asked sent) = closes asked.route
 asked_to_close (Unheard silence) = false
+
+-- the request asked the collector to open its output anew
+abbrev pub reopens : Route → Bool
+reopens Reopen = true
+reopens _ = false
+
+abbrev pub asked_to_reopen : AdminEnd → Bool
+asked_to_reopen (Heard asked sent) = reopens asked.route
+asked_to_reopen (Unheard silence) = false
+
+-- a route that has no power, and whose answer tells nothing of the configuration
+abbrev pub is_harmless : Route → Bool
+is_harmless Close = false
+is_harmless Reopen = false
+is_harmless Config = false
+is_harmless _ = true
+
+abbrev pub was_harmless : AdminEnd → Bool
+was_harmless (Heard asked sent) = is_harmless asked.route
+was_harmless (Unheard silence) = true

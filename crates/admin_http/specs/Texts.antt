@@ -2,7 +2,7 @@
 use Rattle.std.specs.Prelude.{ℕ, Bool, List, [], ◌++◌, length, if◌then◌else◌, codes, decimal}
 use Rattle.admin_http.specs.declared.asked.Method.TheVariants.{Get, Post}
 use Rattle.admin_http.specs.declared.asked.Route.{Route}
-use Rattle.admin_http.specs.declared.asked.Route.TheVariants.{Close, Metrics, Health, Config, Forbidden, NotFound, WrongMethod, Bad, TooLarge}
+use Rattle.admin_http.specs.declared.asked.Route.TheVariants.{Close, Reopen, Metrics, Health, Config, Forbidden, NotFound, WrongMethod, Bad, TooLarge}
 use Rattle.admin_http.specs.declared.asked.AdminRequest.{AdminRequest}
 
 -- what an answer tells of: whether the collector is closing, the text of its numbers, and that of its configuration
@@ -36,6 +36,7 @@ health_page is_stopping =
 -- what each route is answered
 abbrev pub page_of : Route → AdminState → AdminPage
 page_of Close s = json 200 (codes "OK") (codes "{}")
+page_of Reopen s = json 200 (codes "OK") (codes "{}")
 page_of Metrics s = page 200 (codes "OK") (codes "text/plain; version=0.0.4; charset=utf-8") s.metrics
 page_of Health s = health_page s.is_stopping
 page_of Config s = page 200 (codes "OK") (codes "application/toml") s.config

@@ -8,6 +8,9 @@ pub trait Admin {
     /// It was asked to close.
     ghost is_closed: { Self → Bool };
 
+    /// It was asked to open its output anew.
+    ghost is_reopened: { Self → Bool };
+
     /// It may say this of whether it is closing.
     ghost stops: { Self → Bool → Type 0 };
 
@@ -20,6 +23,10 @@ pub trait Admin {
     /// Asks it to close, for good: it takes no request from then on, and ends once what it holds is dealt with.
     fn close(&mut self)
         ensures { is_closed self.new ≡ true };
+
+    /// Asks it to open the file of its output anew, at the same path, since the one that it writes was moved away.
+    fn reopen(&mut self)
+        ensures { is_reopened self.new ≡ true };
 
     /// Whether it was asked to close, here or elsewhere.
     fn is_stopping(&self) -> bool

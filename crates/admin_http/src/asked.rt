@@ -9,11 +9,22 @@ pub enum Method {
     Post,
 }
 
+/// What may be asked for at an address.
+#[derive(Clone, Copy, PartialEq, Eq)]
+pub enum Access {
+    /// Everything: that the collector closes and opens its output anew, its numbers, its health and its configuration.
+    Full,
+    /// Its numbers and its health alone.
+    Numbers,
+}
+
 /// Where a request goes.
 #[derive(Clone, Copy, PartialEq, Eq)]
 pub enum Route {
     /// `POST /close`: the collector is to close.
     Close,
+    /// `POST /reopen`: the collector is to open the file of its output anew.
+    Reopen,
     /// `GET /metrics`: its numbers, as Prometheus reads them.
     Metrics,
     /// `GET /healthz`: whether it takes requests.

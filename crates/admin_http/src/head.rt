@@ -4,11 +4,11 @@ ghost use Rattle.httparse.specs.Grammar.{RequestHead};
 ghost use Rattle.httparse.specs.Spans.{IsRequestWithin};
 ghost use Rattle.http_text.specs.Head.{IsHead};
 ghost use Rattle.http_text.specs.Spans.{IsHeadAt};
-ghost use Rattle.admin_http.specs.Asked.{IsAsked, IsHeard, asked_by, only_by, refused_as, routed};
+ghost use Rattle.admin_http.specs.Asked.{IsAsked, IsHeard, asked_by, numbers_routed, only_by, refused_as, route_by, routed};
 ghost use Rattle.http_text.specs.Fields.{is_foreign};
 ghost use Rattle.httparse.specs.Spans.{name_and_value};
 
-use crate::asked::{AdminRequest, Method, Route};
+use crate::asked::{Access, AdminRequest, Method, Route};
 use http_text::{
     Allowed, Cutting, FIELD_LIMIT, HeadVerdict, PartSearch, RequestRefusal, SearchPlace, cut_on,
     is_foreign, judge, read_head,
@@ -37,52 +37,70 @@ fn only_by(allowed: Method, method: &[u8], route: Route) -> Route
     }
 }
 
-/// Where a request goes, by its method and its target.
-fn routed(method: &[u8], target: &[u8]) -> Route
-    ensures { result ≡ routed method.now target.now }
+/// Where a request for numbers or health goes, by its method and its target.
+fn numbers_routed(method: &[u8], target: &[u8]) -> Route
+    ensures { result ≡ numbers_routed method.now target.now }
 {
-    if target == b"/close".as_slice() {
-        return only_by(Method::Post, method, Route::Close);
-    }
     if target == b"/metrics".as_slice() {
         return only_by(Method::Get, method, Route::Metrics);
     }
     if target == b"/healthz".as_slice() {
         return only_by(Method::Get, method, Route::Health);
     }
-    if target == b"/config".as_slice() {
-        return only_by(Method::Get, method, Route::Config);
-    }
     Route::NotFound
 }
 
+/// Where one goes at an address at which everything may be asked for.
+fn routed(method: &[u8], target: &[u8]) -> Route
+    ensures { result ≡ routed method.now target.now }
+{
+    if target == b"/close".as_slice() {
+        return only_by(Method::Post, method, Route::Close);
+    }
+    if target == b"/reopen".as_slice() {
+        return only_by(Method::Post, method, Route::Reopen);
+    }
+    if target == b"/config".as_slice() {
+        return only_by(Method::Get, method, Route::Config);
+    }
+    numbers_routed(method, target)
+}
+
+/// Where a request goes; `foreign`: a page of another site may have sent it. What has power is asked by `POST`.
+fn route_by(access: Access, method: &[u8], target: &[u8], foreign: bool) -> Route
+    ensures { result ≡ route_by access method.now target.now foreign }
+{
+    if access == Access::Numbers {
+        return numbers_routed(method, target);
+    }
+    if foreign && method == b"POST".as_slice() {
+        Route::Forbidden
+    } else {
+        routed(method, target)
+    }
+}
+
 /// What is asked for by a text that is a head.
-fn asked_by_head(text: &[u8]) -> AdminRequest
+fn asked_by_head(access: Access, text: &[u8]) -> AdminRequest
     requires { (h : RequestHead) × IsHead text.now h }
-    ensures { (h : RequestHead) × IsHead text.now h × (result ≡ asked_by h.method h.target (is_foreign (map name_and_value h.fields))) }
+    ensures { (h : RequestHead) × IsHead text.now h × (result ≡ asked_by access h.method h.target (is_foreign (map name_and_value h.fields))) }
 {
     let mut headers = [EMPTY_HEADER_SPAN; FIELD_LIMIT];
     match read_head(text, &mut headers) {
         Some(head) => {
             let foreign = is_foreign(text, &headers[..head.headers]);
-            asked_by(head.method.of(text), head.path.of(text), foreign)
+            asked_by(access, head.method.of(text), head.path.of(text), foreign)
         }
         None => unreachable!(),
     }
 }
 
-/// What is asked for by a method and a target; `foreign`: a page of another site may have sent the request. What has power
-/// is asked by `POST`.
-fn asked_by(method: &[u8], target: &[u8], foreign: bool) -> AdminRequest
-    ensures { result ≡ asked_by method.now target.now foreign }
+/// What is asked for by a method and a target; `foreign`: a page of another site may have sent the request.
+fn asked_by(access: Access, method: &[u8], target: &[u8], foreign: bool) -> AdminRequest
+    ensures { result ≡ asked_by access method.now target.now foreign }
 {
-    let route = if foreign && method == b"POST".as_slice() {
-        Route::Forbidden
-    } else {
-        routed(method, target)
-    };
     AdminRequest {
-        route,
+        route: route_by(access, method, target, foreign),
         is_head: method == b"HEAD".as_slice(),
     }
 }
@@ -111,25 +129,26 @@ fn refused_as(verdict: HeadVerdict) -> Option<AdminRequest>
 }
 
 /// What the text of a head asks for.
-fn asked_in(text: &[u8]) -> AdminRequest
-    ensures { IsAsked text.now result }
+fn asked_in(access: Access, text: &[u8]) -> AdminRequest
+    ensures { IsAsked access text.now result }
 {
     match refused_as(judge(text, NOTHING)) {
         Some(refused) => refused,
-        None => asked_by_head(text),
+        None => asked_by_head(access, text),
     }
 }
 
-/// What the bytes ask for that were read so far; `None`: their head isn't whole yet.
-pub fn heard(read: &[u8]) -> Option<AdminRequest>
-    ensures { IsHeard read.now result }
+/// What the bytes ask for that were read so far, at an address at which this may be asked for; `None`: their head isn't
+/// whole yet.
+pub fn heard(access: Access, read: &[u8]) -> Option<AdminRequest>
+    ensures { IsHeard access read.now result }
 {
     let search = PartSearch {
         at: 0,
         place: SearchPlace::Blank,
     };
     match cut_on(read, search) {
-        Cutting::Whole(n) => Some(asked_in(&read[..n])),
+        Cutting::Whole(n) => Some(asked_in(access, &read[..n])),
         Cutting::Waits(_) => None,
         Cutting::TooLong => Some(AdminRequest {
             route: Route::TooLarge,

@@ -4,7 +4,7 @@
 //! `specs/Asked`, the bytes of each answer in `specs/Texts`, and what a connection does in `specs/Serving`.
 //!
 //! ```
-//! match serve(alloc, &mut reader, &mut writer, &mut admin) {
+//! match serve(alloc, Access::Full, &mut reader, &mut writer, &mut admin) {
 //!     AdminEnd::Heard(asked, portion) => note(asked, portion),
 //!     AdminEnd::Unheard(silence) => note_silence(silence),
 //! }
@@ -20,7 +20,7 @@ mod serving;
 mod texts;
 
 pub use admin::Admin;
-pub use asked::{AdminRequest, Method, Route};
+pub use asked::{Access, AdminRequest, Method, Route};
 pub use ends::{AdminEnd, PIECE_LIMIT, Portion, QUIET_LIMIT, READ_LIMIT, Silence};
 pub use head::heard;
 pub use law::heard_in_any_pieces;

@@ -1,9 +1,10 @@
 //! One connection.
 ghost use Rattle.std.specs.Prelude.{◌≡◌, ◌<◌, ◌≤◌, ℕ, List, Bool, true, false, IfOk, length, string_bytes};
-ghost use Rattle.admin_http.specs.Serving.{Answers, Hears, IsMade, Puts, Responds, Served, Takes, asked_to_close, closes};
+ghost use Rattle.admin_http.specs.Serving.{Answers, Hears, IsMade, Puts, Responds, Served, Takes, asked_to_close, asked_to_reopen, closes, reopens, was_harmless};
+ghost use Rattle.admin_http.specs.declared.asked.Access.TheVariants.{Numbers};
 
 use crate::admin::Admin;
-use crate::asked::{AdminRequest, Route};
+use crate::asked::{Access, AdminRequest, Route};
 use crate::ends::{AdminEnd, PIECE_LIMIT, PieceRead, Portion, QUIET_LIMIT, READ_LIMIT, Silence};
 use crate::head::heard;
 use crate::texts::answer;
@@ -32,13 +33,21 @@ fn closes(route: Route) -> bool
     matches!(route, Route::Close)
 }
 
-/// The answer to a request. To one that asks the collector to close, that it was asked to.
+/// Whether a route asks the collector to open its output anew.
+fn reopens(route: Route) -> bool
+    ensures { result ≡ reopens route }
+{
+    matches!(route, Route::Reopen)
+}
+
+/// The answer to a request. To one that asks the collector to close, or to open its output anew, that it was asked to.
 fn answer_from<A: Admin>(
     alloc: Global,
     admin: &A,
     asked: AdminRequest,
 ) -> Result<String, AllocError>
-    requires { closes asked.route ≡ true → A.is_closed admin.now ≡ true }
+    requires closed { closes asked.route ≡ true → A.is_closed admin.now ≡ true }
+    requires reopened { reopens asked.route ≡ true → A.is_reopened admin.now ≡ true }
     ensures { IfOk result (λ text. Answers (A.stops admin.now) (A.tells admin.now) (A.configuration admin.now) asked (string_bytes text)) }
 {
     let is_stopping = admin.is_stopping();
@@ -49,7 +58,8 @@ fn answer_from<A: Admin>(
     answer(alloc, asked, is_stopping, metrics.as_str(), admin.config())
 }
 
-/// Answers a request. Where it asks the collector to close, that is done before any byte of the answer is written.
+/// Answers a request. Where it asks the collector to close, or to open its output anew, the collector is asked before any
+/// byte of the answer is written.
 fn respond<W: Write, A: Admin>(
     alloc: Global,
     writer: &mut W,
@@ -58,10 +68,13 @@ fn respond<W: Write, A: Admin>(
 ) -> Portion
     ensures responds { Responds (A.stops admin.new) (A.tells admin.new) (A.configuration admin.new) (W.contents writer.old) (W.contents writer.new) asked result }
     ensures closed { closes asked.route ≡ true → A.is_closed admin.new ≡ true }
-    ensures kept { closes asked.route ≡ false → admin.new ≡ admin.old }
+    ensures reopened { reopens asked.route ≡ true → A.is_reopened admin.new ≡ true }
+    ensures kept { closes asked.route ≡ false → reopens asked.route ≡ false → admin.new ≡ admin.old }
 {
     if closes(asked.route) {
         admin.close();
+    } else if reopens(asked.route) {
+        admin.reopen();
     }
     match answer_from(alloc, admin, asked) {
         Ok(text) => write_text(writer, text.as_bytes()),
@@ -94,17 +107,18 @@ fn take_piece<R: Read>(reader: &mut R, read: &mut Vec<u8>) -> PieceRead
 /// Reads until a head is whole.
 fn hear<R: Read, A: Admin>(
     alloc: Global,
+    access: Access,
     reader: &mut R,
     admin: &A,
 ) -> Result<AdminRequest, Silence>
-    ensures { Hears (R.remaining reader.old) (R.remaining reader.new) result }
+    ensures { Hears access (R.remaining reader.old) (R.remaining reader.new) result }
 {
     let mut read = Vec::new(alloc);
     let mut quiet = 0;
     for _ in 0..READ_LIMIT {
         match take_piece(reader, &mut read) {
             PieceRead::More => {
-                if let Some(asked) = heard(&read) {
+                if let Some(asked) = heard(access, &read) {
                     return Ok(asked);
                 }
             }
@@ -127,20 +141,24 @@ fn hear<R: Read, A: Admin>(
 }
 
 /// Serves one connection: reads until the head of a request is whole, answers it once, by one write where the writer
-/// takes it whole, and ends. Where no head gets whole nothing is written. A request to close is passed to `admin`
-/// before its answer is written, and also where that can't be written.
+/// takes it whole, and ends. Where no head gets whole nothing is written. What may be asked for, `access` says: any other
+/// target isn't found. A request to close, or to open the output anew, is passed to `admin` before its answer is
+/// written, and also where that can't be written.
 pub fn serve<R: Read, W: Write, A: Admin>(
     alloc: Global,
+    access: Access,
     reader: &mut R,
     writer: &mut W,
     admin: &mut A,
 ) -> AdminEnd
-    ensures served { Served (A.stops admin.new) (A.tells admin.new) (A.configuration admin.new)
+    ensures served { Served access (A.stops admin.new) (A.tells admin.new) (A.configuration admin.new)
         (R.remaining reader.old) (R.remaining reader.new) (W.contents writer.old) (W.contents writer.new) result }
     ensures closed { asked_to_close result ≡ true → A.is_closed admin.new ≡ true }
-    ensures kept { asked_to_close result ≡ false → admin.new ≡ admin.old }
+    ensures reopened { asked_to_reopen result ≡ true → A.is_reopened admin.new ≡ true }
+    ensures kept { asked_to_close result ≡ false → asked_to_reopen result ≡ false → admin.new ≡ admin.old }
+    ensures numbers { access ≡ Numbers → was_harmless result ≡ true }
 {
-    match hear(alloc, reader, admin) {
+    match hear(alloc, access, reader, admin) {
         Ok(asked) => AdminEnd::Heard(asked, respond(alloc, writer, admin, asked)),
         Err(silence) => AdminEnd::Unheard(silence),
     }

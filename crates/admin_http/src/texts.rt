@@ -34,7 +34,7 @@ fn page_of<'a>(route: Route, is_stopping: bool, metrics: &'a str, config: &'a st
     ensures { page result.status result.reason.now result.media.now result.body.now ≡ page_of route (state is_stopping metrics.now config.now) }
 {
     match route {
-        Route::Close => json(200, "OK", "{}"),
+        Route::Close | Route::Reopen => json(200, "OK", "{}"),
         Route::Metrics => AdminPage {
             status: 200,
             reason: "OK",

@@ -6,9 +6,10 @@ ghost use Rattle.collector_main.specs.Configuration.{file_of};
 
 use crate::configuration::FileFault;
 use crate::logging::{say_fault, say_listening, say_settings};
+use admin_http::Access;
 use collector_serve::{
-    Board, Charge, ClosingDoor, EventWriter, MEMORY_ACCOUNT, StopMark, close_at_end, listen,
-    start_admin, start_log_watch, start_memory_watch,
+    Board, Charge, ClosingDoor, EventWriter, MEMORY_ACCOUNT, OutputStall, StopMark, close_at_end,
+    end_admin, listen, start_admin, start_log_watch, start_memory_watch,
 };
 use config_text::settings_in_force;
 use lane_driver::Loads;
@@ -54,12 +55,14 @@ pub fn charge_of(
         silent: Board::new(alloc, config.shards, &config.policies)?,
         loads: Arc::new(alloc, Loads::new(alloc, config.lanes as usize)?)?,
         admin: config.admin.try_clone(alloc)?,
+        metrics_address: config.metrics.try_clone(alloc)?,
+        stall: OutputStall::new(),
     };
     Ok(Arc::new(alloc, charge)?)
 }
 
 /// Says which settings aren't default, and looks at a run: at what memory the process takes, where the configuration
-/// limits that or there are those in charge, and at what is to be said of the run, where something is.
+/// limits that or somebody is told, and at what is to be said of the run, where something is.
 pub fn watches<
     T: Files<File = File>
         + Net<Listener = TcpListener, Stream = TcpStream>
@@ -88,14 +91,19 @@ pub fn watches<
         );
         return Err(error);
     }
-    if config.log != LogForm::Off {
+    if config.log != LogForm::Off || is_told(config) {
         let watched = EventWriter::new(errors, config.log);
         start_log_watch(rt, alloc, watched, Arc::try_clone(charge)?)?;
     }
     Ok(())
 }
 
-/// Looks at what memory the process takes, for those in charge, and refuses requests while it is more than the
+/// Whether somebody may be told numbers.
+fn is_told(config: &Config) -> bool {
+    !config.admin.as_str().is_empty() || !config.metrics.as_str().is_empty()
+}
+
+/// Looks at what memory the process takes, for those who are told, and refuses requests while it is more than the
 /// configuration says.
 fn watches_memory<
     T: Files<File = File>
@@ -105,7 +113,7 @@ fn watches_memory<
         + Send
         + 'static,
 >(rt: &T, config: &Config, charge: &Arc<Charge, Global>) -> io::Result<()> {
-    if config.memory_limit_mib == 0 && config.admin.as_str().is_empty() {
+    if config.memory_limit_mib == 0 && !is_told(config) {
         return Ok(());
     }
     let account = fs::open(rt, MEMORY_ACCOUNT)?;
@@ -117,8 +125,31 @@ fn watches_memory<
     )
 }
 
-/// Listens at the address of requests, and, as the configuration says, at that for those in charge, and to the end of
-/// the input. Beside the listener it gives what answers clients who connect to it as the collector closes.
+/// Answers at an address by what may be asked for there; nothing at none.
+fn answers_at<
+    T: Files + Net<Listener = TcpListener, Stream = TcpStream> + Machine + Copy + Send + 'static,
+    E: Write + Drop,
+>(
+    rt: &T,
+    alloc: Global,
+    address: &str,
+    access: Access,
+    charge: &Arc<Charge, Global>,
+    events: &mut EventWriter<E>,
+) -> io::Result<()> {
+    if address.is_empty() {
+        return Ok(());
+    }
+    if let Err(error) = start_admin(rt, alloc, address, access, Arc::try_clone(charge)?) {
+        say_fault(rt, alloc, events, "cannot_listen", address, error);
+        return Err(error);
+    }
+    Ok(())
+}
+
+/// Listens at the address of requests, and, as the configuration says, at that for those in charge, at that of numbers
+/// alone, and to the end of the input. Beside the listener it gives what answers clients who connect to it as the
+/// collector closes.
 pub fn opened<
     T: Files<File = File>
         + Net<Listener = TcpListener, Stream = TcpStream>
@@ -145,11 +176,11 @@ pub fn opened<
         }
     };
     let admin = config.admin.as_str();
-    if !admin.is_empty() {
-        if let Err(error) = start_admin(rt, alloc, admin, Arc::try_clone(charge)?) {
-            say_fault(rt, alloc, events, "cannot_listen", admin, error);
-            return Err(error);
-        }
+    answers_at(rt, alloc, admin, Access::Full, charge, events)?;
+    let metrics = config.metrics.as_str();
+    if let Err(error) = answers_at(rt, alloc, metrics, Access::Numbers, charge, events) {
+        end_admin(rt, admin);
+        return Err(error);
     }
     if config.close_at_end_of_input {
         close_at_end(rt, input, Arc::try_clone(charge)?)?;

@@ -14,7 +14,7 @@ use crate::logging::{say_end, say_no_memory, say_refused, say_start};
 use crate::opening::{charge_of, copy_of, opened, watches};
 use crate::running::serve_with;
 use crate::validating::told_of;
-use collector_serve::{EventWriter, end_admin};
+use collector_serve::EventWriter;
 use config_faults::ConfigFault;
 use drop_ledger::{Count, Report};
 use itoa::Buffer;
@@ -303,7 +303,7 @@ fn serve_by<
     let ended = serve_with(rt, alloc, config, &listener, &charge, writer);
     door.end(rt, &charge);
     drop(listener);
-    end_admin(rt, charge.admin.as_str());
+    charge.removes_sockets(rt);
     say_end(rt, alloc, &mut events, &charge, &ended.1);
     ended
 }

@@ -9,6 +9,7 @@
 //! ```
 #![tactic(auto)]
 
+mod admin_door;
 mod admin_thread;
 mod board;
 mod charge;
@@ -19,15 +20,18 @@ mod line_spans;
 mod log_watch;
 mod memory_rule;
 mod memory_watch;
+mod output_stall;
 mod requests;
 mod serving;
 mod steady_clock;
 mod stop_mark;
 mod stopping_sink;
 mod ticker;
+mod visit;
 mod wall_clock;
 
-pub use admin_thread::{end_admin, socket_path, start_admin};
+pub use admin_door::{end_admin, socket_path};
+pub use admin_thread::start_admin;
 pub use board::Board;
 pub use charge::{Charge, close_at_end};
 pub use closing_door::ClosingDoor;
@@ -37,6 +41,7 @@ pub use line_spans::LineSpans;
 pub use log_watch::start_log_watch;
 pub use memory_rule::MemoryRule;
 pub use memory_watch::{MEMORY_ACCOUNT, start_memory_watch};
+pub use output_stall::OutputStall;
 pub use requests::{request_fields, with_export_room};
 pub use serving::{drivers, listen, port_alone, serve_on};
 pub use steady_clock::SteadyClock;

@@ -83,7 +83,8 @@ fn watch<W: Write + Drop, R: Wait + Clock>(
         let now = steady.now();
         let wall = WallClock::new(rt).now();
         if let Some(apart) = jump_of(wall, now) {
-            say_jump(rt, alloc, &mut events, apart, wall);
+            charge.board.jumps();
+            say_jump(rt, alloc, &mut events, charge, apart, wall);
             steady = SteadyClock::new(rt);
         }
         look_at_numbers(rt, alloc, &mut events, charge, &mut known, now);
@@ -92,16 +93,40 @@ fn watch<W: Write + Drop, R: Wait + Clock>(
     }
 }
 
+/// Says an event, and counts the line where there is one.
+fn say<W: Write + Drop, R: Clock>(
+    rt: &R,
+    alloc: Global,
+    events: &mut EventWriter<W>,
+    charge: &Charge,
+    level: Level,
+    event: &str,
+    fields: &[LogField<'_>],
+) {
+    if events.say(rt, alloc, level, event, fields) {
+        charge.board.logs(level);
+    }
+}
+
 /// Says that the wall clock was set.
 fn say_jump<W: Write + Drop, R: Clock>(
     rt: &R,
     alloc: Global,
     events: &mut EventWriter<W>,
+    charge: &Charge,
     apart: u64,
     wall: u64,
 ) {
     let fields = [number("by_ms", apart), number("clock_ms", wall)];
-    events.say(rt, alloc, Level::Warning, "clock_jumped", &fields);
+    say(
+        rt,
+        alloc,
+        events,
+        charge,
+        Level::Warning,
+        "clock_jumped",
+        &fields,
+    );
 }
 
 fn number(name: &'static str, number: u64) -> LogField<'static> {
@@ -144,8 +169,16 @@ fn look_at_numbers<W: Write + Drop, R: Clock>(
         let (begins, ends, name) = COMINGS[at];
         let fields = [number(name, numbers[at])];
         match turn {
-            Some(SpellTurn::Begins) => events.say(rt, alloc, Level::Warning, begins, &fields),
-            Some(SpellTurn::Ends) => events.say(rt, alloc, Level::Info, ends, &fields),
+            Some(SpellTurn::Begins) => say(
+                rt,
+                alloc,
+                events,
+                charge,
+                Level::Warning,
+                begins,
+                &fields,
+            ),
+            Some(SpellTurn::Ends) => say(rt, alloc, events, charge, Level::Info, ends, &fields),
             None => {}
         }
     }
@@ -170,11 +203,27 @@ fn look_at_backend<W: Write + Drop, R: Clock>(
     match turn {
         Some(AwayTurn::Away) => {
             let fields = [number("unanswered", unanswered)];
-            events.say(rt, alloc, Level::Warning, "backend_away", &fields);
+            say(
+                rt,
+                alloc,
+                events,
+                charge,
+                Level::Warning,
+                "backend_away",
+                &fields,
+            );
         }
         Some(AwayTurn::Back(passed)) => {
             let fields = [number("away_ms", passed)];
-            events.say(rt, alloc, Level::Info, "backend_back", &fields);
+            say(
+                rt,
+                alloc,
+                events,
+                charge,
+                Level::Info,
+                "backend_back",
+                &fields,
+            );
         }
         None => {}
     }
@@ -190,7 +239,15 @@ fn look_at_end<W: Write + Drop, R: Clock>(
 ) {
     if charge.board.is_down() && !known.is_down {
         known.is_down = true;
-        events.say(rt, alloc, Level::Error, "output_failed", &[]);
+        say(
+            rt,
+            alloc,
+            events,
+            charge,
+            Level::Error,
+            "output_failed",
+            &[],
+        );
     }
     if known.is_closing {
         return;
@@ -214,5 +271,5 @@ fn say_closing<W: Write + Drop, R: Clock>(
         value: FieldValue::Text(closer.name()),
     };
     let fields = [by, number("spans_waiting", charge.board.waiting())];
-    events.say(rt, alloc, Level::Info, "closing", &fields);
+    say(rt, alloc, events, charge, Level::Info, "closing", &fields);
 }

@@ -5,10 +5,10 @@ use Rattle.admin_http.proofs.head.heard.Goals as goal
 
 pub returns-in-Whole : goal.returns-in-Whole
 returns-in-Whole c =
-    let read = c.args.read.now in heard_at read (Whole c.in-Whole.n) (Some c.asked_in.result) (c.in-Whole.ensures.cuts head_len (from_blank read)).0 c.asked_in.ensures
+    let read = c.args.read.now in heard_at c.args.access read (Whole c.in-Whole.n) (Some c.asked_in.result) (c.in-Whole.ensures.cuts head_len (from_blank read)).0 c.asked_in.ensures
 
 pub returns-in-Waits : goal.returns-in-Waits
-returns-in-Waits c = let read = c.args.read.now in heard_at read Waits None (c.in-Waits.ensures.cuts head_len (from_blank read)).0 tt
+returns-in-Waits c = let read = c.args.read.now in heard_at c.args.access read Waits None (c.in-Waits.ensures.cuts head_len (from_blank read)).0 tt
 
 pub returns-in-TooLong : goal.returns-in-TooLong
-returns-in-TooLong c = let read = c.args.read.now in heard_at read TooLong (Some _) (c.in-TooLong.ensures.cuts head_len (from_blank read)) refl
+returns-in-TooLong c = let read = c.args.read.now in heard_at c.args.access read TooLong (Some _) (c.in-TooLong.ensures.cuts head_len (from_blank read)) refl

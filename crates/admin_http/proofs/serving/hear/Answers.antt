@@ -13,7 +13,7 @@ returns-in-Some g c =
     let more = c.in-More.ensures in (
       c.take_piece.new.read.items,
       read_on (known c.args.reader.now) (known c.loop.reader) (known c.take_piece.new.reader) c.loop.read.items more.0 c.take_piece.new.read.items c.loop.invariant.read more.1 more.2,
-      subst (λ l. IsHeard l (Some c.in-Some.asked)) c.deref.ensures.value c.in-Some.ensures,
+      subst (λ l. IsHeard c.args.access l (Some c.in-Some.asked)) c.deref.ensures.value c.in-Some.ensures,
     )
 
 pub returns-then-is_stopping : goal.returns-then-is_stopping
@@ -55,7 +55,7 @@ loop-preserved g c =
           let more = w.in-More.ensures in
           record {
             read = read_on (known c.args.reader.now) (known c.loop.reader) (known c.take_piece.new.reader) c.loop.read.items more.0 now c.loop.invariant.read more.1 more.2;
-            waits = unheard_waits now (subst (λ l. IsHeard l None) w.deref.ensures.value w.in_default.ensures);
+            waits = unheard_waits c.args.access now (subst (λ l. IsHeard c.args.access l None) w.deref.ensures.value w.in_default.ensures);
             quiet = let P = λ (n : ℕ). n < QUIET_LIMIT in subst P (sym w.quiet-is) c.loop.invariant.quiet;
           }
       | in-Nothing+else-is_stopping+else-quiet-ge-QUIET_LIMIT w ↦
