@@ -21,6 +21,7 @@ import serve_limits
 import serve_many
 import serve_memory
 import serve_operated
+import serve_output
 from collector import ALL, ERRORS, ERROR_LINE, ERROR_SPAN, Failure, body_of, post, run_checks, spans_of, want
 
 
@@ -340,7 +341,7 @@ def main():
     """Runs each check on each program."""
     checks = [one_error, serve_on_loopback, asks_behind_the_close, is_kept_while_it_runs, keep_alive, chunked, expect, refusals, broken_clients, many_clients]
     checks += [queues_of_four, closes_under_way, refused_address, reader_is_gone] + ([under_curl] if has_curl() else [])
-    own = [senders, serve_limits, serve_many, serve_faults, serve_admin, serve_config, serve_close, serve_memory, serve_export, serve_operated]
+    own = [senders, serve_limits, serve_many, serve_faults, serve_admin, serve_config, serve_close, serve_memory, serve_export, serve_operated, serve_output]
     run_checks(sys.argv[1:], checks + [check for it in own for check in it.CHECKS])
 
 

@@ -9,39 +9,25 @@ use Rattle.pipeline.specs.declared.fault.ServeFault.TheVariants.{NoMemory, Count
 use Rattle.tsc_config.specs.declared.config.Config.{Config}
 use Rattle.collector_main.specs.Configuration.{IsConfigOf}
 use Rattle.collector_main.specs.Outcomes.{served_to}
-use Rattle.collector_main.specs.Ending.{Course, IsExportedTo, SendsTo, RunsTo, Serves, ServedTo, ExportedTo, prints}
+use Rattle.collector_main.specs.Ending.{Course, IsExportedTo, SendsTo, RunsTo, FilesTo, RanOn, Serves, prints, writes_file}
 use Rattle.collector_main.specs.declared.program.Outcome.{Outcome}
 use Rattle.collector_main.specs.declared.program.Outcome.TheVariants.{CannotListen}
 
-served : (course : Course) (config : Config) (failures : ℕ) (answer : Result Report ServeFault) → IsConfigOf course.file config → prints config ≡ true → course.unread_after ≡ course.unread
-    → SinkAnswers course.taken 0 course.taken_after failures answer → CoreRunTells config course.taken 0 course.taken_after failures answer → ServedTo course (served_to answer)
-served course config failures answer read printed unread sink ran = record { config = config; is_read = read; printed = printed; failures_after = failures; answer = answer; sink = sink; ran = ran; unread = unread; outcome_is = refl }
-
 -- what a run by a configuration answered
-pub Serves-ran : (course : Course) (config : Config) (failures : ℕ) (answer : Result Report ServeFault) → IsConfigOf course.file config → prints config ≡ true → course.unread_after ≡ course.unread
-    → SinkAnswers course.taken 0 course.taken_after failures answer → CoreRunTells config course.taken 0 course.taken_after failures answer → Serves course (served_to answer)
-Serves-ran course config failures (Ok report) read printed unread sink ran = inl (served course config failures (Ok report) read printed unread sink ran)
-Serves-ran course config failures (Err NoMemory) read printed unread sink ran = inr (inl (served course config failures (Err NoMemory) read printed unread sink ran))
-Serves-ran course config failures (Err CounterOverflow) read printed unread sink ran = inl (served course config failures (Err CounterOverflow) read printed unread sink ran)
-Serves-ran course config failures (Err (SinkDown report)) read printed unread sink ran = inl (served course config failures (Err (SinkDown report)) read printed unread sink ran)
+Serves-answered : (course : Course) (answer : Result Report ServeFault) → RanOn course (served_to answer) → Serves course (served_to answer)
+Serves-answered course (Ok report) ran = ran
+Serves-answered course (Err NoMemory) ran = inr ran
+Serves-answered course (Err CounterOverflow) ran = ran
+Serves-answered course (Err (SinkDown report)) ran = ran
 
--- where a run whose lines were sent came to
-exported : (course : Course) (config : Config) (outcome : Outcome) → IsConfigOf course.file config → prints config ≡ false → course.unread_after ≡ course.unread
-    → SendsTo config course.taken course.taken_after outcome → ExportedTo course outcome
-exported course config outcome read sent unread to = record { config = config; is_read = read; sent = sent; sends = to; unread = unread }
+Serves-ran : (course : Course) (answer : Result Report ServeFault) (outcome : Outcome) → outcome ≡ served_to answer → RanOn course outcome → Serves course outcome
+Serves-ran course answer outcome is ran = subst (λ o. Serves course o) (sym is) (Serves-answered course answer (subst (λ o. RanOn course o) is ran))
 
-Serves-sent : (course : Course) (config : Config) (answer : Result Report ServeFault) (given_up : ℕ) (outcome : Outcome) → IsConfigOf course.file config → prints config ≡ false
-    → course.unread_after ≡ course.unread → SendsTo config course.taken course.taken_after outcome → IsExportedTo answer given_up outcome → Serves course outcome
-Serves-sent course config (Ok report) given_up outcome read sent unread to (inl told) =
-    subst (λ o. Serves course o) (sym told.2) (inr (subst (λ o. ExportedTo course o) told.2 (exported course config outcome read sent unread to)))
-Serves-sent course config (Ok report) given_up outcome read sent unread to (inr full) =
-    subst (λ o. Serves course o) (sym full.1) (inr (subst (λ o. ExportedTo course o) full.1 (exported course config outcome read sent unread to)))
-Serves-sent course config (Err NoMemory) given_up outcome read sent unread to is =
-    subst (λ o. Serves course o) (sym is) (inr (inr (subst (λ o. ExportedTo course o) is (exported course config outcome read sent unread to))))
-Serves-sent course config (Err CounterOverflow) given_up outcome read sent unread to is =
-    subst (λ o. Serves course o) (sym is) (inr (subst (λ o. ExportedTo course o) is (exported course config outcome read sent unread to)))
-Serves-sent course config (Err (SinkDown report)) given_up outcome read sent unread to is =
-    subst (λ o. Serves course o) (sym is) (inr (subst (λ o. ExportedTo course o) is (exported course config outcome read sent unread to)))
+-- what a run whose lines were sent answered
+Serves-sent : (course : Course) (answer : Result Report ServeFault) (given_up : ℕ) (outcome : Outcome) → IsExportedTo answer given_up outcome → RanOn course outcome → Serves course outcome
+Serves-sent course (Ok report) given_up outcome (inl told) ran = subst (λ o. Serves course o) (sym told.2) (subst (λ o. RanOn course o) told.2 ran)
+Serves-sent course (Ok report) given_up outcome (inr full) ran = subst (λ o. Serves course o) (sym full.1) (subst (λ o. RanOn course o) full.1 ran)
+Serves-sent course (Err fault) given_up outcome is ran = Serves-ran course (Err fault) outcome is ran
 
 -- nothing was done for want of memory, or since it couldn't be listened
 pub sends-starved : (config : Config) (lines : Bool) (taken taken_after : Option (List ℕ)) → config.export.lines ≡ lines → taken_after ≡ taken → SendsTo config taken taken_after (served_to (Err NoMemory))
@@ -52,19 +38,54 @@ pub sends-unheard : (config : Config) (lines : Bool) (taken : Option (List ℕ))
 sends-unheard config false taken is = inl (is, refl, inl refl)
 sends-unheard config true taken is = inr (is, inl (refl, refl))
 
+runs-starved : (config : Config) (is : Bool) (taken : Option (List ℕ)) → prints config ≡ is → RunsTo config taken taken (served_to (Err NoMemory))
+runs-starved config true taken printed = inl (printed, inr (0, Err NoMemory, (refl, refl), tt, refl))
+runs-starved config false taken sent = inr (sent, sends-starved config config.export.lines taken taken refl refl)
+
+-- where a run by a configuration came to, which says that the lines go to no file
+pub Serves-runs : (course : Course) (config : Config) (outcome : Outcome) → IsConfigOf course.file config → writes_file config ≡ false → course.unread_after ≡ course.unread
+    → RunsTo config course.taken course.taken_after outcome → Serves course outcome
+Serves-runs course config outcome read here unread (inl (printed, inl x)) = subst (λ o. Serves course o) (sym x.1) (config, read, (unread, x.0))
+Serves-runs course config outcome read here unread (inl (printed, inr x)) =
+    Serves-ran course x.1 outcome x.4
+    (inl (record { config = config; is_read = read; printed = printed; here = here; failures_after = x.0; answer = x.1; sink = x.2; ran = x.3; unread = unread; outcome_is = x.4 }))
+Serves-runs course config outcome read here unread (inr (sent, inl (off, same, inl x))) = subst (λ o. Serves course o) (sym x) (config, read, (unread, same))
+Serves-runs course config outcome read here unread (inr (sent, inl (off, same, inr x))) =
+    Serves-sent course x.3 x.4 outcome x.7
+    (inr (inl (record { config = config; is_read = read; sent = sent; here = here; sends = inl (off, same, inr x); unread = unread })))
+Serves-runs course config outcome read here unread (inr (sent, inr (on, inl x))) = subst (λ o. Serves course o) (sym x.1) (config, read, (unread, x.0))
+Serves-runs course config outcome read here unread (inr (sent, inr (on, inr x))) =
+    Serves-sent course x.1 x.2 outcome x.5
+    (inr (inl (record { config = config; is_read = read; sent = sent; here = here; sends = inr (on, inr x); unread = unread })))
+
+-- where a run came to whose lines went to a file
+filed : (course : Course) (config : Config) (outcome : Outcome) → IsConfigOf course.file config → writes_file config ≡ true → course.unread_after ≡ course.unread
+    → FilesTo config course.taken course.taken_after outcome → RanOn course outcome
+filed course config outcome read file unread to = inr (inr (record { config = config; is_read = read; filed = file; files = to; unread = unread }))
+
+filed-runs : (course : Course) (config : Config) (outcome : Outcome) (before after : Option (List ℕ)) → IsConfigOf course.file config → course.unread_after ≡ course.unread → course.taken_after ≡ course.taken
+    → RanOn course outcome → RunsTo config before after outcome → Serves course outcome
+filed-runs course config outcome before after read unread same ran (inl (printed, inl x)) = subst (λ o. Serves course o) (sym x.1) (config, read, (unread, same))
+filed-runs course config outcome before after read unread same ran (inl (printed, inr x)) = Serves-ran course x.1 outcome x.4 ran
+filed-runs course config outcome before after read unread same ran (inr (sent, inl (off, stays, inl x))) = subst (λ o. Serves course o) (sym x) (config, read, (unread, same))
+filed-runs course config outcome before after read unread same ran (inr (sent, inl (off, stays, inr x))) = Serves-sent course x.3 x.4 outcome x.7 ran
+filed-runs course config outcome before after read unread same ran (inr (sent, inr (on, inl x))) = subst (λ o. Serves course o) (sym x.1) (config, read, (unread, same))
+filed-runs course config outcome before after read unread same ran (inr (sent, inr (on, inr x))) = Serves-sent course x.1 x.2 outcome x.5 ran
+
+pub Serves-files : (course : Course) (config : Config) (outcome : Outcome) → IsConfigOf course.file config → writes_file config ≡ true → course.unread_after ≡ course.unread
+    → FilesTo config course.taken course.taken_after outcome → Serves course outcome
+Serves-files course config outcome read file unread to = filed-runs course config outcome to.1 to.2 read unread to.0 (filed course config outcome read file unread to) to.3
+
+-- where a run by a configuration came to, whether or not its lines went to a file
+pub Serves-to : (course : Course) (config : Config) (outcome : Outcome) (file : Bool) → writes_file config ≡ file → IsConfigOf course.file config → course.unread_after ≡ course.unread
+    → (writes_file config ≡ false → RunsTo config course.taken course.taken_after outcome) → (writes_file config ≡ true → FilesTo config course.taken course.taken_after outcome) → Serves course outcome
+Serves-to course config outcome true is read unread here filed = Serves-files course config outcome read is unread (filed is)
+Serves-to course config outcome false is read unread here filed = Serves-runs course config outcome read is unread (here is)
+
 -- there was no memory before the run
 pub Serves-starved : (course : Course) (config : Config) (is : Bool) → prints config ≡ is → IsConfigOf course.file config → course.unread_after ≡ course.unread → course.taken_after ≡ course.taken
     → Serves course (served_to (Err NoMemory))
-Serves-starved course config true printed read unread same = Serves-ran course config 0 (Err NoMemory) read printed unread (same, refl) tt
-Serves-starved course config false sent read unread same =
-    Serves-sent course config (Err NoMemory) 0 (served_to (Err NoMemory)) read sent unread (sends-starved config config.export.lines course.taken course.taken_after refl same) refl
-
--- where a run by a configuration came to
-pub Serves-runs : (course : Course) (config : Config) (outcome : Outcome) → IsConfigOf course.file config → course.unread_after ≡ course.unread
-    → RunsTo config course.taken course.taken_after outcome → Serves course outcome
-Serves-runs course config outcome read unread (inl (printed, inl x)) = subst (λ o. Serves course o) (sym x.1) (config, read, (unread, x.0))
-Serves-runs course config outcome read unread (inl (printed, inr x)) = subst (λ o. Serves course o) (sym x.4) (Serves-ran course config x.0 x.1 read printed unread x.2 x.3)
-Serves-runs course config outcome read unread (inr (sent, inl (off, same, inl x))) = subst (λ o. Serves course o) (sym x) (config, read, (unread, same))
-Serves-runs course config outcome read unread (inr (sent, inl (off, same, inr x))) = Serves-sent course config x.3 x.4 outcome read sent unread (inl (off, same, inr x)) x.7
-Serves-runs course config outcome read unread (inr (sent, inr (on, inl x))) = subst (λ o. Serves course o) (sym x.1) (config, read, (unread, x.0))
-Serves-runs course config outcome read unread (inr (sent, inr (on, inr x))) = Serves-sent course config x.1 x.2 outcome read sent unread (inr (on, inr x)) x.5
+Serves-starved course config is printed read unread same =
+    Serves-to course config (served_to (Err NoMemory)) (writes_file config) refl read unread
+    (λ here. subst (λ (after : Option (List ℕ)). RunsTo config course.taken after (served_to (Err NoMemory))) (sym same) (runs-starved config is course.taken printed))
+    (λ file. (same, None, None, runs-starved config is None printed))

@@ -1,5 +1,5 @@
 -- The last text and the exit status, and how each outcome arises.
-use Rattle.std.specs.Prelude.{◌≡◌, ◌⊎◌, ◌++◌, ◌<◌, ◌^◌, ℕ, Bool, true, false, not, ◌==◌, ◌||◌, List, [], ◌∷◌, map, length, slice_index, Option, Some, None, Result, Ok, Err, codes, decimal, string_bytes, if◌then◌else◌}
+use Rattle.std.specs.Prelude.{◌≡◌, ◌⊎◌, ◌++◌, ◌<◌, ◌^◌, ℕ, Bool, true, false, not, ◌==◌, ◌||◌, ◌&&◌, List, [], ◌∷◌, map, length, slice_index, Option, Some, None, Result, Ok, Err, codes, decimal, string_bytes, if◌then◌else◌}
 use Rattle.std.specs.List.{concat}
 use Rattle.std.specs.Io.KnownBytes.{Appends}
 use Rattle.std.specs.Str.{bytes_eq}
@@ -12,7 +12,7 @@ use Rattle.drop_ledger.specs.declared.report.Report.{Report}
 use Rattle.tsc_config.specs.declared.config.Config.{Config}
 use Rattle.script_session.specs.declared.fault.ReplayFault.{ReplayFault}
 use Rattle.collector_main.specs.declared.program.Outcome.{Outcome}
-use Rattle.collector_main.specs.declared.program.Outcome.TheVariants.{Done, SinkDown, Usage, Unreadable, Configuration, Script, NoMemory, CounterOverflow, CannotListen, Valid, Faulty}
+use Rattle.collector_main.specs.declared.program.Outcome.TheVariants.{Done, SinkDown, Usage, Unreadable, Configuration, Script, NoMemory, CounterOverflow, CannotListen, CannotWrite, Valid, Faulty}
 use Rattle.collector_main.specs.declared.program.Outcome.TheVariants as is
 use Rattle.collector_main.specs.declared.program.Command.{Command}
 use Rattle.collector_main.specs.declared.program.Command.TheVariants.{Replay, Serve, Validate, Close, Help, Version}
@@ -80,6 +80,7 @@ text_of (Script line) = codes "tsc: script refused: line " ++ decimal line ++ co
 text_of NoMemory = codes "tsc: no memory\n"
 text_of CounterOverflow = codes "tsc: book full\n"
 text_of CannotListen = codes "tsc: cannot listen\n"
+text_of CannotWrite = codes "tsc: cannot write\n"
 text_of Valid = codes "ok\n"
 text_of (Faulty lines) = string_bytes lines
 text_of is.Help = help_text
@@ -177,6 +178,7 @@ pub record RanTo (course : Course) (outcome : Outcome) : Type 0 where
 abbrev pub Replays : Course → Outcome → Type 0
 Replays course Usage = ⊥
 Replays course CannotListen = ⊥
+Replays course CannotWrite = ⊥
 Replays course Unreadable = FileFails course.file Unreadable × NothingDone course
 Replays course (Configuration fault) = FileFails course.file (Configuration fault) × NothingDone course
 Replays course NoMemory = (FileFails course.file NoMemory × NothingDone course) ⊎ RanTo course NoMemory
@@ -186,12 +188,17 @@ Replays course outcome = RanTo course outcome
 abbrev pub prints : Config → Bool
 prints config = length config.export.endpoint == 0
 
+-- lines go to a file: a configuration names one, and lines are printed
+abbrev pub writes_file : Config → Bool
+writes_file config = (prints config || config.export.lines) && not (length config.output == 0)
+
 -- a configuration was read that says nowhere to send lines to, and the run on a listener by it had an answer of this
 -- outcome; what its threads did is a run of the core; nothing was read of a script
 pub record ServedTo (course : Course) (outcome : Outcome) : Type 0 where
   pub config : Config
   pub is_read : IsConfigOf course.file config
   pub printed : prints config ≡ true
+  pub here : writes_file config ≡ false
   pub failures_after : ℕ
   pub answer : Result Report ServeFault
   pub sink : SinkAnswers course.taken 0 course.taken_after failures_after answer
@@ -251,12 +258,27 @@ pub record ExportedTo (course : Course) (outcome : Outcome) : Type 0 where
   pub config : Config
   pub is_read : IsConfigOf course.file config
   pub sent : prints config ≡ false
+  pub here : writes_file config ≡ false
   pub sends : SendsTo config course.taken course.taken_after outcome
+  pub unread : course.unread_after ≡ course.unread
+
+-- Lines went to a file in place of standard output, which is as it was: by the configuration the run came to this
+-- outcome with what the file had taken before and after.
+abbrev pub FilesTo : Config → (taken taken_after : Option (List ℕ)) → Outcome → Type 0
+FilesTo config taken taken_after outcome = (taken_after ≡ taken) × ((before : Option (List ℕ)) × (after : Option (List ℕ)) × RunsTo config before after outcome)
+
+-- a configuration was read that names a file for lines that are printed, and the run by it came to this outcome; nothing
+-- was read of a script
+pub record FiledTo (course : Course) (outcome : Outcome) : Type 0 where
+  pub config : Config
+  pub is_read : IsConfigOf course.file config
+  pub filed : writes_file config ≡ true
+  pub files : FilesTo config course.taken course.taken_after outcome
   pub unread : course.unread_after ≡ course.unread
 
 -- a run by a configuration came to this outcome
 abbrev pub RanOn : Course → Outcome → Type 0
-RanOn course outcome = ServedTo course outcome ⊎ ExportedTo course outcome
+RanOn course outcome = ServedTo course outcome ⊎ (ExportedTo course outcome ⊎ FiledTo course outcome)
 
 -- a configuration was read, and nothing was done by it
 abbrev pub OnlyRead : Course → Type 0
@@ -270,6 +292,7 @@ Serves course Unreadable = FileFails course.file Unreadable × NothingDone cours
 Serves course (Configuration fault) = FileFails course.file (Configuration fault) × NothingDone course
 Serves course NoMemory = (FileFails course.file NoMemory × NothingDone course) ⊎ RanOn course NoMemory
 Serves course CannotListen = OnlyRead course
+Serves course CannotWrite = OnlyRead course
 Serves course outcome = RanOn course outcome
 
 -- how an outcome arises by what is asked for

@@ -6,7 +6,7 @@ use Rattle.script_session.specs.declared.fault.ReplayFault.TheVariants.{NoMemory
 use Rattle.pipeline.specs.declared.fault.ServeFault.{ServeFault}
 use Rattle.pipeline.specs.declared.fault.ServeFault.TheVariants as serve_is
 use Rattle.collector_main.specs.declared.program.Outcome.{Outcome}
-use Rattle.collector_main.specs.declared.program.Outcome.TheVariants.{Done, SinkDown, Usage, Unreadable, Configuration, Script, NoMemory, CounterOverflow, CannotListen, Valid, Faulty, Help, Version, Closed, CannotClose}
+use Rattle.collector_main.specs.declared.program.Outcome.TheVariants.{Done, SinkDown, Usage, Unreadable, Configuration, Script, NoMemory, CounterOverflow, CannotListen, CannotWrite, Valid, Faulty, Help, Version, Closed, CannotClose}
 
 -- how the program ends after a script's run with this answer
 abbrev pub outcome_of : Result Report ReplayFault → Outcome
@@ -35,6 +35,7 @@ exit_status (Script line) written = 4
 exit_status NoMemory written = 5
 exit_status CounterOverflow written = 7
 exit_status CannotListen written = 6
+exit_status CannotWrite written = 1
 exit_status (Faulty lines) written = 3
 exit_status Closed written = 0
 exit_status CannotClose written = 6

@@ -8,6 +8,7 @@
 mod asking;
 mod changed_settings;
 mod closing;
+mod collecting;
 mod configuration;
 mod logging;
 mod opening;

@@ -14,6 +14,7 @@ use collector_serve::{
 use config_text::settings_in_force;
 use lane_driver::Loads;
 use otlp_types::TryClone;
+use output_file::ReopenMark;
 use pipeline::Machine;
 use std::alloc::{AllocError, Global};
 use std::fs::File;
@@ -55,6 +56,8 @@ pub fn charge_of(
         silent: Board::new(alloc, config.shards, &config.policies)?,
         loads: Arc::new(alloc, Loads::new(alloc, config.lanes as usize)?)?,
         admin: config.admin.try_clone(alloc)?,
+        reopen: ReopenMark::new(),
+        output: config.output.try_clone(alloc)?,
         metrics_address: config.metrics.try_clone(alloc)?,
         stall: OutputStall::new(),
     };

@@ -3,18 +3,15 @@ ghost use Rattle.std.specs.Prelude.{◌≡◌, ◌+◌, ◌≤◌, ◌<◌, ◌+
 ghost use Rattle.tsc_script.specs.Reads.{KnownReader};
 ghost use Rattle.collector_main.specs.Configuration.{file_of};
 ghost use Rattle.collector_main.specs.Outcomes.{outcome_of, exit_status};
-ghost use Rattle.collector_main.specs.Ending.{WritesText, HandsText, Finishes, CameTo, Replays, Serves, Ends, text_of, name_of, report_text};
+ghost use Rattle.collector_main.specs.Ending.{WritesText, HandsText, Finishes, CameTo, Replays, Ends, text_of, name_of, report_text};
 ghost use Rattle.collector_main.specs.Validating.{fault_number};
 ghost use Rattle.collector_main.specs.declared.program.Outcome.TheVariants.{NoMemory};
 
 use crate::asking::{HELP, VERSION, asked};
 use crate::closing::close_by;
+use crate::collecting::serve_by;
 use crate::configuration::{FileFault, config_of, read_file};
-use crate::logging::{say_end, say_no_memory, say_refused, say_start};
-use crate::opening::{charge_of, copy_of, opened, watches};
-use crate::running::serve_with;
 use crate::validating::told_of;
-use collector_serve::EventWriter;
 use config_faults::ConfigFault;
 use drop_ledger::{Count, Report};
 use itoa::Buffer;
@@ -72,6 +69,8 @@ pub enum Outcome {
     CounterOverflow,
     /// The address can't be listened at, or too many files are open for a lane to watch its connections.
     CannotListen,
+    /// The output's file can't be opened.
+    CannotWrite,
     /// The configuration has no fault.
     Valid,
     /// The configuration has the faults that these lines tell.
@@ -170,6 +169,7 @@ fn exit_status(outcome: &Outcome, written: bool) -> u8
         Outcome::NoMemory => 5,
         Outcome::CounterOverflow => 7,
         Outcome::CannotListen => 6,
+        Outcome::CannotWrite => 1,
         Outcome::Faulty(_) => 3,
         Outcome::Closed => 0,
         Outcome::CannotClose => 6,
@@ -243,71 +243,6 @@ fn replay_by<R: Source, W: Write>(
     (sink.end(), outcome_of(answer))
 }
 
-/// Takes requests on a listener by the configuration in what was read of its file, which has this path.
-fn serve_by<
-    T: Files<File = File>
-        + Net<Listener = TcpListener, Stream = TcpStream>
-        + Machine
-        + Copy
-        + Send
-        + 'static,
-    I: Read + Send + Drop + 'static,
-    E: Write + Send + Drop + 'static,
-    W: Write + Drop,
->(
-    rt: &T,
-    alloc: Global,
-    path: &str,
-    file: Result<Vec<u8>, FileFault>,
-    around: Surroundings<I, E>,
-    writer: W,
-) -> (W, Outcome)
-    ensures { (arguments : List (List ℕ)) → (unread : KnownReader) → Serves (record {
-      arguments = arguments;
-      file = file_of (λ v. v.items) file;
-      unread = unread;
-      unread_after = unread;
-      taken = W.contents writer;
-      taken_after = W.contents result.0;
-    }) result.1 }
-{
-    let copy = copy_of(alloc, &file);
-    let config = match config_of(alloc, file) {
-        Ok(config) => config,
-        Err(outcome) => {
-            say_refused(rt, alloc, around.errors, path, &outcome);
-            return (writer, outcome);
-        }
-    };
-    let mut events = EventWriter::new(around.errors, config.log);
-    say_start(rt, alloc, &mut events, path, &config);
-    let Ok(charge) = charge_of(alloc, copy, &config) else {
-        say_no_memory(rt, alloc, &mut events);
-        return (writer, Outcome::NoMemory);
-    };
-    if watches(
-        rt,
-        alloc,
-        &config,
-        &charge,
-        around.watch_errors,
-        &mut events,
-    )
-    .is_err()
-    {
-        return (writer, Outcome::NoMemory);
-    }
-    let Ok((listener, door)) = opened(rt, alloc, &config, &charge, around.input, &mut events) else {
-        return (writer, Outcome::CannotListen);
-    };
-    let ended = serve_with(rt, alloc, config, &listener, &charge, writer);
-    door.end(rt, &charge);
-    drop(listener);
-    charge.removes_sockets(rt);
-    say_end(rt, alloc, &mut events, &charge, &ended.1);
-    ended
-}
-
 fn outcome_of(answer: Result<Report, ReplayFault>) -> Outcome
     ensures { result ≡ outcome_of answer }
 {
@@ -348,6 +283,7 @@ fn say<S: Sink>(lines: &mut LineSink<S>, text: &mut Vec<u8>, outcome: &Outcome) 
         Outcome::NoMemory => hand_line(lines, b"tsc: no memory\n"),
         Outcome::CounterOverflow => hand_line(lines, b"tsc: book full\n"),
         Outcome::CannotListen => hand_line(lines, b"tsc: cannot listen\n"),
+        Outcome::CannotWrite => hand_line(lines, b"tsc: cannot write\n"),
         Outcome::Valid => hand_line(lines, b"ok\n"),
         Outcome::Faulty(told) => say_told(lines, told.as_str()),
         Outcome::Closed => true,

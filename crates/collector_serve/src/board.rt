@@ -89,14 +89,16 @@ pub struct Board {
     attempts_unanswered: AtomicU64,
     /// Spans with valid ids of which attributes were left out.
     incomplete: AtomicU64,
-    /// So often it was asked to open the output anew.
-    reopens: AtomicU64,
     /// Lines of the log that warned.
     log_warnings: AtomicU64,
     /// Lines of the log that told an error.
     log_errors: AtomicU64,
     /// Jumps of the wall clock.
     clock_jumps: AtomicU64,
+    /// The moment since which writes of the output fail and are tried again, and 0: they don't.
+    failing_since: AtomicU64,
+    /// The system's number of the error by which that began, and 0: nothing was taken.
+    failing_code: AtomicU64,
 }
 
 impl Board {
@@ -131,10 +133,11 @@ impl Board {
             attempts_refused: AtomicU64::new(0),
             attempts_unanswered: AtomicU64::new(0),
             incomplete: AtomicU64::new(0),
-            reopens: AtomicU64::new(0),
             log_warnings: AtomicU64::new(0),
             log_errors: AtomicU64::new(0),
             clock_jumps: AtomicU64::new(0),
+            failing_since: AtomicU64::new(0),
+            failing_code: AtomicU64::new(0),
         })
     }
 
@@ -206,9 +209,26 @@ impl Board {
         self.incomplete.load(Ordering::Relaxed)
     }
 
-    /// The output is to be opened anew.
-    pub fn asks_to_reopen(&self) {
-        self.reopens.fetch_add(1, Ordering::Relaxed);
+    /// Since this moment writes of the output fail, by the system's error of this number, or by 0 where they take nothing,
+    /// and are tried again.
+    pub fn output_fails(&self, moment: u64, code: u64) {
+        self.failing_code.store(code, Ordering::Relaxed);
+        // The moment 0 is told as the next one, since it says that nothing fails.
+        self.failing_since.store(moment.max(1), Ordering::Release);
+    }
+
+    /// The output takes writes again.
+    pub fn output_is_back(&self) {
+        self.failing_since.store(0, Ordering::Release);
+    }
+
+    /// Since when writes of the output fail and are tried again, and the number of the system's error, or 0.
+    pub fn output_failing(&self) -> Option<(u64, u64)> {
+        let since = self.failing_since.load(Ordering::Acquire);
+        if since == 0 {
+            return None;
+        }
+        Some((since, self.failing_code.load(Ordering::Relaxed)))
     }
 
     /// The log has a line of this level.

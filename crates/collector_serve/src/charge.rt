@@ -10,6 +10,7 @@ use http_lane::HasStopMark;
 use lane_driver::Loads;
 use metrics_text::{Metrics, metrics_text};
 use otlp_types::Text;
+use output_file::ReopenMark;
 use std::alloc::{AllocError, Global};
 use std::io::Read;
 use std::rt::Files;
@@ -37,6 +38,10 @@ pub struct Charge {
     pub configuration: String,
     /// The address for those in charge, or nothing.
     pub admin: Text,
+    /// What asks for the output's file to be opened anew.
+    pub reopen: ReopenMark,
+    /// The path of the output's file, or nothing.
+    pub output: Text,
     /// The address at which numbers alone are told, or nothing.
     pub metrics_address: Text,
 }
@@ -148,7 +153,7 @@ impl<'c, R: Clock> Admin for InCharge<'c, R> {
     }
 
     fn reopen(&mut self) {
-        self.charge.board.asks_to_reopen();
+        self.charge.reopen.ask();
         self.is_reopened = true;
     }
 

@@ -29,6 +29,7 @@ mod stopping_sink;
 mod ticker;
 mod visit;
 mod wall_clock;
+mod write_watch;
 
 pub use admin_door::{end_admin, socket_path};
 pub use admin_thread::start_admin;
@@ -48,3 +49,4 @@ pub use steady_clock::SteadyClock;
 pub use stop_mark::{Closer, StopMark};
 pub use stopping_sink::StoppingSink;
 pub use ticker::Ticker;
+pub use write_watch::WriteWatch;

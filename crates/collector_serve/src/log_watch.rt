@@ -38,6 +38,8 @@ struct Known {
     taken: u64,
     unanswered: u64,
     away_since: Option<u64>,
+    /// Since when the output fails, and when that was seen.
+    failing: Option<(u64, u64)>,
     is_closing: bool,
     is_down: bool,
 }
@@ -51,6 +53,7 @@ impl Known {
             taken: 0,
             unanswered: 0,
             away_since: None,
+            failing: None,
             is_closing: false,
             is_down: false,
         }
@@ -89,6 +92,7 @@ fn watch<W: Write + Drop, R: Wait + Clock>(
         }
         look_at_numbers(rt, alloc, &mut events, charge, &mut known, now);
         look_at_backend(rt, alloc, &mut events, charge, &mut known, now);
+        look_at_output(rt, alloc, &mut events, charge, &mut known, now);
         look_at_end(rt, alloc, &mut events, charge, &mut known);
     }
 }
@@ -226,6 +230,61 @@ fn look_at_backend<W: Write + Drop, R: Clock>(
             );
         }
         None => {}
+    }
+}
+
+/// Says that the output fails and is tried again, and that it takes writes again.
+fn look_at_output<W: Write + Drop, R: Clock>(
+    rt: &R,
+    alloc: Global,
+    events: &mut EventWriter<W>,
+    charge: &Charge,
+    known: &mut Known,
+    now: u64,
+) {
+    let failing = charge.board.output_failing();
+    let since = failing.map(|(since, _)| since);
+    if since == known.failing.map(|(since, _)| since) {
+        return;
+    }
+    if let Some((_, seen)) = known.failing {
+        let fields = [
+            output_of(charge),
+            number("failing_ms", now.saturating_sub(seen)),
+        ];
+        events.say(rt, alloc, Level::Info, "output_back", &fields);
+    }
+    if let Some((_, code)) = failing {
+        let cause = cause_of(alloc, code);
+        let fields = [
+            output_of(charge),
+            LogField {
+                name: "cause",
+                value: FieldValue::Text(cause.as_str()),
+            },
+        ];
+        events.say(rt, alloc, Level::Error, "output_failing", &fields);
+    }
+    known.failing = since.map(|since| (since, now));
+}
+
+/// The output's path; nothing: the standard output.
+fn output_of(charge: &Charge) -> LogField<'_> {
+    LogField {
+        name: "what",
+        value: FieldValue::Text(charge.output.as_str()),
+    }
+}
+
+/// The text of the system's error of this number, and of a write that took nothing.
+fn cause_of(alloc: Global, code: u64) -> String {
+    let error = match i32::try_from(code) {
+        Ok(code) if 0 < code => io::Error::from_raw_os_error(code),
+        _ => io::Error::from(io::ErrorKind::WriteZero),
+    };
+    match format!(in alloc; "{error}") {
+        Ok(cause) => cause,
+        Err(_) => String::new(alloc),
     }
 }
 

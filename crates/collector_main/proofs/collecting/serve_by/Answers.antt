@@ -1,8 +1,8 @@
 use Rattle.std.proofs.Common.{refl}
 use Rattle.collector_main.specs.Configuration.{file_of}
-use Rattle.collector_main.specs.Ending.{Course, prints}
-use Rattle.collector_main.proofs.Serving.{Serves-starved, Serves-runs}
-use Rattle.collector_main.proofs.program.serve_by.Goals as goal
+use Rattle.collector_main.specs.Ending.{Course, prints, writes_file}
+use Rattle.collector_main.proofs.Serving.{Serves-starved, Serves-to}
+use Rattle.collector_main.proofs.collecting.serve_by.Goals as goal
 
 pub returns : goal.returns
 returns g c = λ arguments unread.
@@ -12,9 +12,9 @@ returns g c = λ arguments unread.
       unread = unread;
       unread_after = unread;
       taken = g.W.Write.contents c.args.writer;
-      taken_after = g.W.Write.contents c.serve_with-ended.result.0;
+      taken_after = g.W.Write.contents c.serve_to-ended.result.0;
     } in
-    Serves-runs now c.in-Ok.config c.serve_with-ended.result.1 c.in-Ok.ensures.is_read refl c.serve_with-ended.ensures
+    Serves-to now c.in-Ok.config c.serve_to-ended.result.1 (writes_file c.in-Ok.config) refl c.in-Ok.ensures.is_read refl c.serve_to-ended.ensures.printed c.serve_to-ended.ensures.filed
 
 pub returns-in_default : goal.returns-in_default
 returns-in_default g c = λ arguments unread.

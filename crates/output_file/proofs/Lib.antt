@@ -1,0 +1,3 @@
+mod Rows
+pub mod Segments
+pub mod Shifts
