@@ -87,6 +87,8 @@ pub struct Board {
     attempts_refused: AtomicU64,
     /// Attempts to send a line that had no answer.
     attempts_unanswered: AtomicU64,
+    /// Spans with valid ids of which attributes were left out.
+    incomplete: AtomicU64,
     /// Lines of the log that warned.
     log_warnings: AtomicU64,
     /// Lines of the log that told an error.
@@ -130,6 +132,7 @@ impl Board {
             attempts_taken: AtomicU64::new(0),
             attempts_refused: AtomicU64::new(0),
             attempts_unanswered: AtomicU64::new(0),
+            incomplete: AtomicU64::new(0),
             log_warnings: AtomicU64::new(0),
             log_errors: AtomicU64::new(0),
             clock_jumps: AtomicU64::new(0),
@@ -199,6 +202,11 @@ impl Board {
             self.attempts_refused.load(Ordering::Relaxed),
             self.attempts_unanswered.load(Ordering::Relaxed),
         )
+    }
+
+    /// How many spans with valid ids came of which attributes were left out, by their sender or as they hold a double.
+    pub fn incomplete(&self) -> u64 {
+        self.incomplete.load(Ordering::Relaxed)
     }
 
     /// Since this moment writes of the output fail, by the system's error of this number, or by 0 where they take nothing,
@@ -382,6 +390,10 @@ impl Gate for Board {
         } else {
             self.cell(place).fetch_add(spans, Ordering::Relaxed);
         }
+    }
+
+    fn takes_incomplete(&self) {
+        self.incomplete.fetch_add(1, Ordering::Relaxed);
     }
 
     fn holds(&self, shard: u16, load: ShardLoad) {
