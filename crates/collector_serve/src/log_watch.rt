@@ -252,7 +252,15 @@ fn look_at_output<W: Write + Drop, R: Clock>(
             output_of(charge),
             number("failing_ms", now.saturating_sub(seen)),
         ];
-        events.say(rt, alloc, Level::Info, "output_back", &fields);
+        say(
+            rt,
+            alloc,
+            events,
+            charge,
+            Level::Info,
+            "output_back",
+            &fields,
+        );
     }
     if let Some((_, code)) = failing {
         let cause = cause_of(alloc, code);
@@ -263,7 +271,15 @@ fn look_at_output<W: Write + Drop, R: Clock>(
                 value: FieldValue::Text(cause.as_str()),
             },
         ];
-        events.say(rt, alloc, Level::Error, "output_failing", &fields);
+        say(
+            rt,
+            alloc,
+            events,
+            charge,
+            Level::Error,
+            "output_failing",
+            &fields,
+        );
     }
     known.failing = since.map(|since| (since, now));
 }
