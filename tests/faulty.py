@@ -29,7 +29,7 @@ ROWS = [
     ("nothing", "", ["policies: missing (fault 3)", EMPTY]),
     ("comments alone", "# lanes = 65\n", ["policies: missing (fault 3)", EMPTY]),
     ("no TOML", "lanes =\n", ["not TOML; line 1, column 8 (fault 1)"]),
-    ("no TOML in the third line", f"lanes = 1\nlog = \"\u00fc\"\ntick_ms = 1 2\n{POLICIES}", ["not TOML; line 3, column 13 (fault 1)"]),
+    ("no TOML in the third line", f"lanes = 1\nlog = \"\u00fc\"\ntick_ms = *\n{POLICIES}", ["not TOML; line 3, column 11 (fault 1)"]),
     ("no TOML behind letters of two bytes", f"lanes = 1\nlog = \"\u00fc\u00fc\" x\n{POLICIES}", ["not TOML; line 2, column 12 (fault 1)"]),
     ("a key twice", f"lanes = 1\nlanes = 2\n{POLICIES}", ["not TOML; line 2, column 1 (fault 1)"]),
     ("unknown keys", f"queue = 1\nPolicies = 2\n\"a b\" = 3\n\"\" = 4\n{POLICIES}", ['"": no such key (fault 2)', "Policies: no such key; `policies` is (fault 2)", '"a b": no such key (fault 2)', "queue: no such key (fault 2)"]),

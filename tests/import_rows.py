@@ -287,14 +287,14 @@ headers = { X-Scope-OrgID = "shop" }
      "# line 1: note: processors.batch.send_batch_size: ${env:B} has no value (--set NAME=VALUE), so it isn't written\n" + KEPT
      + "\n# line 2: note: exporters.otlphttp.timeout: ${env:T} has no value (--set NAME=VALUE), so it isn't written\n"
      "# line 2: note: exporters.otlphttp.retry_on_failure.initial_interval: x is no number, so it isn't written\n"
-     '[export]\nendpoint = "http://b/v1/traces"\nretry_max_ms = 7000\n' + ALL),
+     '[export]\nendpoint = "http://b:80/v1/traces"\nretry_max_ms = 7000\n' + ALL),
     ("what a backend's exporter may have", "exporters: { otlphttp: { endpoint: 'http://b', encoding: json, auth: { authenticator: a }, tls: { insecure: true }, headers: [{ name: A, value: b }, { name: C, value: d }], "
      "retry_on_failure: { enabled: false, multiplier: 2 } } }\nservice: { pipelines: { traces: { processors: [tail_sampling], exporters: [otlphttp] } } }\n" + ONE,
      KEPT + "\n# line 1: note: exporters.otlphttp.auth: tsc has no such setting; a token can be one of the headers\n"
      "# line 1: note: exporters.otlphttp.tls: tsc doesn't encrypt; name a proxy's address (stunnel, nginx) as endpoint\n"
      "# line 1: note: exporters.otlphttp.retry_on_failure.enabled: tsc always tries again; retry_for_ms says how long\n"
      "# line 1: note: exporters.otlphttp.retry_on_failure.multiplier: tsc has no such setting\n"
-     '[export]\nendpoint = "http://b/v1/traces"\nheaders = { A = "b", C = "d" }\n' + ALL),
+     '[export]\nendpoint = "http://b:80/v1/traces"\nheaders = { A = "b", C = "d" }\n' + ALL),
     ("a limit of memory in percent", "processors: { memory_limiter: { limit_percentage: 80 }, batch: , tail_sampling: { policies: [{ name: all, type: always_sample }] } }\n"
      "service: { pipelines: { traces: { processors: [memory_limiter, batch, tail_sampling] } } }\n",
      "# line 1: note: processors.memory_limiter.limit_percentage: tsc has a limit in mebibytes alone (memory_limit_mib)\n"

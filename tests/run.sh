@@ -263,6 +263,11 @@ texts() {
     check_full "the version to a full device" 1 /dev/null version
 }
 
+# What is told of a configuration that can't be read, of this path and for this reason.
+told_unreadable() {
+    printf 'tsc: configuration refused: unreadable\n%s: %s\n' "$1" "$2" > "$work/expected"
+}
+
 # What is told of configurations: of each example, of those that tests/faulty.py makes, of files that can't be read, aren't UTF-8 or are too long, and of a long list.
 validated() {
     local config name status number
@@ -277,12 +282,18 @@ validated() {
         [ ! -e "$work/$name.status" ] || status=$(cat "$work/$name.status")
         check_text "$name" "$status" "$work/$name.expected" /dev/null "$program" validate "$work/$name.toml"
     done < "$work/faulty"
-    printf 'tsc: configuration refused: unreadable\n' > "$work/expected"
+    told_unreadable "$work/none.toml" "does not exist"
     check_text "no such configuration to validate" 3 "$work/expected" /dev/null "$program" validate "$work/none.toml"
+    told_unreadable "$work" "is a directory"
+    check_text "a directory to validate" 3 "$work/expected" /dev/null "$program" validate "$work"
+    told_unreadable "$top/examples/errors.toml/none.toml" "reading it failed"
+    check_text "a configuration to validate in what is no directory" 3 "$work/expected" /dev/null "$program" validate "$top/examples/errors.toml/none.toml"
     { cat "$top/examples/errors.toml" && printf '# \377\n'; } > "$work/config.toml"
+    told_unreadable "$work/config.toml" "not UTF-8"
     check_text "a configuration to validate that isn't UTF-8" 3 "$work/expected" /dev/null "$program" validate "$work/config.toml"
     cp "$top/examples/errors.toml" "$work/config.toml"
     spaces $((1048577 - $(wc -c < "$work/config.toml"))) >> "$work/config.toml"
+    told_unreadable "$work/config.toml" "longer than 1048576 bytes"
     check_text "a configuration of 1048577 bytes to validate" 3 "$work/expected" /dev/null "$program" validate "$work/config.toml"
     { printf 'policies = [' && for number in {1..20000}; do printf '%s,' "$number"; done && printf ']\n'; } > "$work/config.toml"
     { for number in {0..19999}; do echo "policies[$number]: a table is wanted (fault 4)"; done && echo 'policies: a list of policies is empty (fault 7.1)'; } > "$work/expected"

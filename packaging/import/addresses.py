@@ -1,4 +1,6 @@
 """Where spans come from and go to: the receivers, exporters and other processors of a pipeline, as keys of tsc."""
+import re
+
 from collector_yaml import Section, Table, Unfit, is_nothing, text_of
 
 RESERVED = ("host", "content-type", "content-length", "content-encoding", "transfer-encoding", "connection", "expect", "upgrade")
@@ -64,6 +66,11 @@ def export(exporters, names):
     return table, remarks
 
 
+def with_port(endpoint):
+    """An address of HTTP with its port, which tsc wants: where none stands there, that of HTTP."""
+    return re.sub(r"^(http://(?:\[[^]/]*\]|[^:/]+))(?=/)", r"\1:80", endpoint)
+
+
 def sends_to(exporter):
     """The settings of an exporter."""
     whole, base = exporter.take("traces_endpoint"), exporter.take("endpoint")
@@ -73,7 +80,7 @@ def sends_to(exporter):
     if exporter.noted(exporter.text, "encoding", "proto") != "json":
         exporter.tell("note", "encoding", "tsc sends JSON, which the backend must take")
     exporter.take("compression")
-    table = {"endpoint": str(endpoint), "timeout_ms": exporter.noted(exporter.milliseconds, "timeout", 1, 600000)}
+    table = {"endpoint": with_port(str(endpoint)), "timeout_ms": exporter.noted(exporter.milliseconds, "timeout", 1, 600000)}
     retry = Section(exporter.take("retry_on_failure"), exporter.where("retry_on_failure"), exporter.line)
     table["retry_initial_ms"] = retry.noted(retry.milliseconds, "initial_interval", 1, 3600000)
     table["retry_max_ms"] = retry.noted(retry.milliseconds, "max_interval", 1, 3600000)

@@ -14,12 +14,12 @@ use Rattle.collector_main.specs.Ending.{Course, CameTo, Does, AsksFor}
 untold : (file : Result (List ℕ) FileFault) → FileTells file is.Usage → ⊥
 untold (Ok bytes) tells = tells
 untold (Err file_is.NoMemory) tells = cc
-untold (Err file_is.Unreadable) tells = cc
+untold (Err (file_is.Unreadable why)) tells = tells
 
 uncalled : (file : Result (List ℕ) FileFault) → FileCloses file is.Usage → ⊥
 uncalled (Ok bytes) closes = closes
 uncalled (Err file_is.NoMemory) closes = cc
-uncalled (Err file_is.Unreadable) closes = cc
+uncalled (Err (file_is.Unreadable why)) closes = cc
 
 -- nothing that is asked for ends as wrong arguments do
 no-usage : (course : Course) (command : Command) → Does course command is.Usage → ⊥

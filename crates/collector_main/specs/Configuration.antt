@@ -43,7 +43,7 @@ BytesFail bytes _ = ⊥
 -- the outcome of a file that was not read
 abbrev pub outcome_of_fault : FileFault → Outcome
 outcome_of_fault file_is.NoMemory = NoMemory
-outcome_of_fault file_is.Unreadable = Unreadable
+outcome_of_fault (file_is.Unreadable why) = Unreadable
 
 -- a file was read as this configuration
 abbrev pub IsConfigOf : Result (List ℕ) FileFault → Config → Type 0

@@ -12,7 +12,7 @@ use std::{fs, io};
 use tsc_config::{Config, read};
 
 /// The longest configuration that is read, in bytes.
-const MAX_CONFIG_LEN: usize = 1_048_576;
+pub const MAX_CONFIG_LEN: usize = 1_048_576;
 
 /// Why the configuration's file was not read.
 #[derive(Clone, Copy, PartialEq, Eq)]
@@ -20,7 +20,20 @@ pub enum FileFault {
     /// There was no memory for what it holds.
     NoMemory,
     /// It can't be opened, or reading it failed.
-    Unreadable,
+    Unreadable(ReadFault),
+}
+
+/// Why a file can't be opened or read.
+#[derive(Clone, Copy, PartialEq, Eq)]
+pub enum ReadFault {
+    /// There is none of its name.
+    Missing,
+    /// The program may not read it.
+    NotAllowed,
+    /// It is a directory.
+    Directory,
+    /// Anything else.
+    Other,
 }
 
 /// What the file holds, or of a file that is too long one byte more than may be read.
@@ -45,12 +58,29 @@ fn read_start<F: Read + Drop>(alloc: Global, file: F) -> io::Result<Vec<u8>>
 fn told(file: io::Result<Vec<u8>>) -> Result<Vec<u8>, FileFault>
     ensures whole { IfOk file (λ bytes. result ≡ Ok bytes) }
     ensures memory { IfErr file (λ error. error_kind error ≡ ErrorKind.OutOfMemory → result ≡ Err FileFault.NoMemory) }
-    ensures others { IfErr file (λ error. error_kind error ≢ ErrorKind.OutOfMemory → result ≡ Err FileFault.Unreadable) }
+    ensures missing { IfErr file (λ error. error_kind error ≡ ErrorKind.NotFound → result ≡ Err (FileFault.Unreadable ReadFault.Missing)) }
+    ensures not_allowed { IfErr file (λ error. error_kind error ≡ ErrorKind.PermissionDenied → result ≡ Err (FileFault.Unreadable ReadFault.NotAllowed)) }
+    ensures directory { IfErr file (λ error. error_kind error ≡ ErrorKind.IsADirectory → result ≡ Err (FileFault.Unreadable ReadFault.Directory)) }
+    ensures others { IfErr file (λ error. error_kind error ≢ ErrorKind.OutOfMemory → (fault : ReadFault) × (result ≡ Err (FileFault.Unreadable fault))) }
 {
     match file {
         Ok(bytes) => Ok(bytes),
         Err(error) if error.kind() == ErrorKind::OutOfMemory => Err(FileFault::NoMemory),
-        Err(_) => Err(FileFault::Unreadable),
+        Err(error) => Err(FileFault::Unreadable(read_fault(error.kind()))),
+    }
+}
+
+/// Why a file can't be opened or read, by the kind of an error.
+fn read_fault(kind: ErrorKind) -> ReadFault
+    ensures missing { kind ≡ ErrorKind.NotFound → result ≡ ReadFault.Missing }
+    ensures not_allowed { kind ≡ ErrorKind.PermissionDenied → result ≡ ReadFault.NotAllowed }
+    ensures directory { kind ≡ ErrorKind.IsADirectory → result ≡ ReadFault.Directory }
+{
+    match kind {
+        ErrorKind::NotFound => ReadFault::Missing,
+        ErrorKind::PermissionDenied => ReadFault::NotAllowed,
+        ErrorKind::IsADirectory => ReadFault::Directory,
+        _ => ReadFault::Other,
     }
 }
 
@@ -63,7 +93,7 @@ pub fn config_of(alloc: Global, file: Result<Vec<u8>, FileFault>) -> Result<Conf
     match file {
         Ok(bytes) => config_in(alloc, bytes),
         Err(FileFault::NoMemory) => Err(Outcome::NoMemory),
-        Err(FileFault::Unreadable) => Err(Outcome::Unreadable),
+        Err(FileFault::Unreadable(_)) => Err(Outcome::Unreadable),
     }
 }
 

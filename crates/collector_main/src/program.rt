@@ -212,7 +212,7 @@ fn run<
     match command {
         Command::Replay => replay_by(alloc, read_file(rt, alloc, path), reader, writer),
         Command::Serve => serve_by(rt, alloc, path, read_file(rt, alloc, path), around, writer),
-        Command::Validate => (writer, told_of(alloc, read_file(rt, alloc, path))),
+        Command::Validate => (writer, told_of(alloc, path, read_file(rt, alloc, path))),
         Command::Close => (writer, close_by(rt, alloc, read_file(rt, alloc, path))),
         Command::Help => (writer, Outcome::Help),
         Command::Version => (writer, Outcome::Version),

@@ -1,29 +1,70 @@
 //! Every fault of a configuration, in lines, and behind them what can't run of it.
 ghost use Rattle.std.specs.Prelude.{◌≡◌, ◌++◌, IfOk, OnOk, string_bytes};
 ghost use Rattle.collector_main.specs.Configuration.{file_of};
-ghost use Rattle.collector_main.specs.Validating.{FileTells, TextTells, address_line, address_lines, fault_number, line_of, lines_of};
+ghost use Rattle.collector_main.specs.Validating.{FileTells, Refuses, TextTells, address_line, address_lines, bytes_text, fault_number, fault_text, line_of, lines_of, unreadable_lines};
 
-use crate::configuration::{FileFault, text_in};
+use crate::configuration::{FileFault, MAX_CONFIG_LEN, ReadFault, text_in};
 use crate::program::Outcome;
 use config_faults::ConfigFault;
 use config_findings::{AddressFinding, ConfigFinding, faults};
 use std::alloc::{AllocError, Global};
 
 /// What is told of the configuration in what was read of its file.
-pub fn told_of(alloc: Global, file: Result<Vec<u8>, FileFault>) -> Outcome
+pub fn told_of(alloc: Global, path: &str, file: Result<Vec<u8>, FileFault>) -> Outcome
     ensures { FileTells (file_of (λ v. v.items) file) result }
 {
     let bytes = match file {
         Ok(bytes) => bytes,
         Err(FileFault::NoMemory) => return Outcome::NoMemory,
-        Err(FileFault::Unreadable) => return Outcome::Unreadable,
+        Err(FileFault::Unreadable(fault)) => return unreadable(alloc, path, fault_text(fault)),
     };
+    let why = bytes_text(&bytes);
     let Some(text) = text_in(bytes) else {
-        return Outcome::Unreadable;
+        return unreadable(alloc, path, why);
     };
     match told_in(alloc, text.as_str()) {
         Ok(outcome) => outcome,
         Err(_) => Outcome::NoMemory,
+    }
+}
+
+/// What is told of a file at this path that can't be read for this reason; where there is no memory for the reason, that
+/// it can't be read.
+fn unreadable(alloc: Global, path: &str, why: &str) -> Outcome
+    ensures { Refuses why.now result }
+{
+    match unreadable_lines(alloc, path, why) {
+        Ok(lines) => Outcome::Faulty(lines),
+        Err(_) => Outcome::Unreadable,
+    }
+}
+
+fn unreadable_lines(alloc: Global, path: &str, why: &str) -> Result<String, AllocError>
+    ensures { IfOk result (λ lines. string_bytes lines ≡ unreadable_lines path.now why.now) }
+{
+    format!(in alloc; "tsc: configuration refused: unreadable\n{path}: {why}\n")
+}
+
+/// Why a file can't be read.
+fn fault_text(fault: ReadFault) -> &'static str
+    ensures { result.now ≡ fault_text fault }
+{
+    match fault {
+        ReadFault::Missing => "does not exist",
+        ReadFault::NotAllowed => "no permission to read it",
+        ReadFault::Directory => "is a directory",
+        ReadFault::Other => "reading it failed",
+    }
+}
+
+/// Why bytes are no text that may be read, where they are none.
+fn bytes_text(bytes: &Vec<u8>) -> &'static str
+    ensures { result.now ≡ bytes_text bytes.now.items }
+{
+    if MAX_CONFIG_LEN < bytes.len() {
+        "longer than 1048576 bytes"
+    } else {
+        "not UTF-8"
     }
 }
 

@@ -91,6 +91,7 @@ impl Charge {
             log_errors,
             clock_jumps: self.board.jumped(),
             closed_idle: traffic.closed_idle(),
+            incomplete: self.board.incomplete(),
         }
     }
 }

@@ -5,7 +5,7 @@ use Rattle.metrics_text.specs.declared.metrics.Metrics.{Metrics}
 use Rattle.metrics_text.specs.declared.kind.FamilyKind.{FamilyKind}
 use Rattle.metrics_text.specs.declared.kind.FamilyKind.TheVariants.{Counter, Gauge}
 use Rattle.metrics_text.specs.declared.figure.Figure.{Figure}
-use Rattle.metrics_text.specs.declared.figure.Figure.TheVariants.{SpansWaiting, ReceivedBytes, SentBytes, Lines, OutputBytes, Memory, Answered200, Answered400, Answered404, Answered405, Answered408, Answered413, Answered415, Answered431, Answered503, LateSampled, LateNotSampled, Rejected, AttemptsTaken, AttemptsRefused, AttemptsUnanswered, OutputStalled, OldestWaiting, LogWarnings, LogErrors, ClockJumps, ClosedIdle}
+use Rattle.metrics_text.specs.declared.figure.Figure.TheVariants.{SpansWaiting, ReceivedBytes, SentBytes, Lines, OutputBytes, Memory, Answered200, Answered400, Answered404, Answered405, Answered408, Answered413, Answered415, Answered431, Answered503, LateSampled, LateNotSampled, Rejected, AttemptsTaken, AttemptsRefused, AttemptsUnanswered, OutputStalled, OldestWaiting, LogWarnings, LogErrors, ClockJumps, ClosedIdle, Incomplete}
 use Rattle.metrics_text.specs.Families.{word_of, head_lines, sample, sample_line}
 
 -- what is told of a number: its name, what its family's head says, where it is the first of it and else nothing, the
@@ -65,6 +65,7 @@ figure_row LogWarnings = logged (codes "Lines of the log that tell of trouble, b
 figure_row LogErrors = logged [] (codes "error")
 figure_row ClockJumps = single (codes "tsc_clock_jumps_total") (codes "Jumps of the wall clock that were seen.") Counter
 figure_row ClosedIdle = single (codes "tsc_connections_closed_idle_total") (codes "Connections that were closed for others, as those that had waited the longest.") Counter
+figure_row Incomplete = single (codes "tsc_spans_incomplete_total") (codes "Spans that came of which attributes were left out, by their sender or as they hold a double.") Counter
 
 -- the values
 abbrev pub figure_value : Metrics → Figure → ℕ
@@ -95,6 +96,7 @@ figure_value metrics LogWarnings = metrics.log_warnings
 figure_value metrics LogErrors = metrics.log_errors
 figure_value metrics ClockJumps = metrics.clock_jumps
 figure_value metrics ClosedIdle = metrics.closed_idle
+figure_value metrics Incomplete = metrics.incomplete
 
 -- each once, in their order
 abbrev pub all_figures : List Figure
@@ -102,7 +104,7 @@ all_figures =
     SpansWaiting ∷ ReceivedBytes ∷ SentBytes ∷ Lines ∷ OutputBytes ∷ Memory
     ∷ Answered200 ∷ Answered400 ∷ Answered404 ∷ Answered405 ∷ Answered408 ∷ Answered413 ∷ Answered415 ∷ Answered431 ∷ Answered503
     ∷ LateSampled ∷ LateNotSampled ∷ Rejected ∷ AttemptsTaken ∷ AttemptsRefused ∷ AttemptsUnanswered
-    ∷ OutputStalled ∷ OldestWaiting ∷ LogWarnings ∷ LogErrors ∷ ClockJumps ∷ ClosedIdle ∷ []
+    ∷ OutputStalled ∷ OldestWaiting ∷ LogWarnings ∷ LogErrors ∷ ClockJumps ∷ ClosedIdle ∷ Incomplete ∷ []
 
 -- the lines in front of a family's first number
 abbrev pub head_of : FigureRow → List ℕ

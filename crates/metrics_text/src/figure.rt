@@ -63,6 +63,8 @@ pub enum Figure {
     ClockJumps,
     /// Connections that were closed for others.
     ClosedIdle,
+    /// Spans of which attributes were left out.
+    Incomplete,
 }
 
 impl Figure {
@@ -237,6 +239,12 @@ impl Figure {
                 FamilyKind::Counter,
                 "",
             ),
+            Figure::Incomplete => (
+                "tsc_spans_incomplete_total",
+                "Spans that came of which attributes were left out, by their sender or as they hold a double.",
+                FamilyKind::Counter,
+                "",
+            ),
         }
     }
 
@@ -272,6 +280,7 @@ impl Figure {
             Figure::LogErrors => metrics.log_errors,
             Figure::ClockJumps => metrics.clock_jumps,
             Figure::ClosedIdle => metrics.closed_idle,
+            Figure::Incomplete => metrics.incomplete,
         }
     }
 }

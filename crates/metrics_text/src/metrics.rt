@@ -65,6 +65,8 @@ pub struct Metrics {
     pub clock_jumps: u64,
     /// How many connections were closed for others, since they had waited the longest.
     pub closed_idle: u64,
+    /// How many spans came of which attributes were left out, by their sender or as they hold a double.
+    pub incomplete: u64,
 }
 
 /// What a policy decided.

@@ -226,6 +226,7 @@ fn put_figures(text: &mut String, metrics: &Metrics) -> Result<(), AllocError>
         Figure::LogErrors,
         Figure::ClockJumps,
         Figure::ClosedIdle,
+        Figure::Incomplete,
     ];
     for figure in figures {
         put_figure(text, metrics, figure)?;

@@ -3,12 +3,13 @@ use Rattle.std.specs.Prelude.{Err, string_bytes}
 use Rattle.collector_main.specs.Configuration.{file_of}
 use Rattle.collector_main.specs.Ending.{AsksFor}
 use Rattle.collector_main.specs.declared.configuration.FileFault.TheVariants.{Unreadable}
+use Rattle.collector_main.specs.declared.configuration.ReadFault.TheVariants.{Other}
 use Rattle.collector_main.specs.declared.program.Command.TheVariants.{Replay, Serve, Validate, Close, Help, Version}
 use Rattle.collector_main.proofs.Courses.{CameTo-does}
 use Rattle.collector_main.proofs.program.run.Goals as goal
 
 pub returns-in_default : goal.returns-in_default
-returns-in_default g c = (Err Unreadable, (c.in_default.ensures.none, (refl, refl)))
+returns-in_default g c = (Err (Unreadable Other), (c.in_default.ensures.none, (refl, refl)))
 
 pub returns-in-Replay : goal.returns-in-Replay
 returns-in-Replay g c =
