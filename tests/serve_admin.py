@@ -24,6 +24,17 @@ def free_port():
         return probe.getsockname()[1]
 
 
+def listens(port):
+    """Waits until somebody listens at this port: the collector does so at its first address before."""
+    for _ in range(500):
+        try:
+            socket.create_connection(("127.0.0.1", port), timeout=5).close()
+            return
+        except ConnectionRefusedError:
+            time.sleep(0.02)
+    raise Failure("nobody listens")
+
+
 def get(path, method="GET"):
     """The bytes of a request without a body."""
     return f"{method} {path} HTTP/1.1\r\nHost: collector\r\n\r\n".encode()
@@ -201,6 +212,7 @@ def numbers_alone(start):
     """Numbers and health alone are told at `metrics`, at once while a hundred clients say nothing there; whatever else is asked isn't found. Silent ones don't hold up `admin` either."""
     admin, metrics = free_port(), free_port()
     collector = start(f'admin = "127.0.0.1:{admin}"\nmetrics = "127.0.0.1:{metrics}"\ndecision_wait_ms = 50\ntick_ms = 50\n' + ALL)
+    listens(metrics)
     want("the answer", collector.ask(post(body_of([ERROR_SPAN])))[0], 200)
     comes_to("what is handed over", lambda: scrape(metrics)["tsc_spans_handed_total"], 1)
     for port in (metrics, admin):
@@ -251,6 +263,7 @@ def asks_to_reopen(start):
     """`POST /reopen` is answered at `admin` as `/close` is, refused to pages of other sites, and closes nothing."""
     admin = free_port()
     collector = start(f'admin = "127.0.0.1:{admin}"\n' + ALL)
+    listens(admin)
     want("the answer", asked(admin, post(b"", "/reopen"))[::2], (200, "{}"))
     for fields in (["Origin: http://evil.example"], ["Sec-Fetch-Site: cross-site"]):
         want(f"the answer with {fields}", asked(admin, post(b"", "/reopen", fields=fields))[::2], (403, '{"message":"forbidden"}'))
@@ -267,6 +280,7 @@ def slow_questions(start):
     """One who sends a byte now and then is let go after ten seconds in all."""
     admin = free_port()
     collector = start(f'admin = "127.0.0.1:{admin}"\n' + ALL)
+    listens(admin)
     client, began = Client(admin), time.monotonic()
     try:
         for _ in range(100):

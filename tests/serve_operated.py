@@ -13,7 +13,7 @@ import threading
 import time
 
 from collector import ALL, ERROR_SPAN, ERRORS, Failure, body_of, post, want
-from serve_admin import comes_to, free_port, scrape
+from serve_admin import comes_to, free_port, listens, scrape
 from serve_faults import library_of
 from serve_limits import at_most
 
@@ -176,6 +176,7 @@ def output_that_stalls(start):
     reader, writer = os.pipe()
     collector = start(f'metrics = "127.0.0.1:{metrics}"\ndecision_wait_ms = 3600000\nroot_wait_ms = 1\ntick_ms = 50\n' + ALL, output=writer)
     os.close(writer)
+    listens(metrics)
     told = lambda name: scrape(metrics)[name]
     want("before anything", [told("tsc_output_stalled_seconds"), told("tsc_oldest_waiting_seconds")], [0, 0])
     began = time.monotonic()
@@ -217,6 +218,7 @@ def lines_of_the_log(start):
             os.close(writer)
             names = ["tsc_clock_jumps_total", 'tsc_log_lines_total{level="warn"}', 'tsc_log_lines_total{level="error"}']
             told = lambda: [numbers[name] for numbers in [scrape(metrics)] for name in names]
+            listens(metrics)
             want("before", told(), [0, 0, 0])
             with open(shift, "w", encoding="utf-8") as file:
                 file.write("-3600")
