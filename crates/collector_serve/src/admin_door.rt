@@ -1,4 +1,6 @@
 //! An address at which those in charge ask, and the connections there.
+ghost use Rattle.std.specs.Io.{ReadsAtMost, WritesAtMost};
+
 use crate::serving::listen;
 use std::alloc::Global;
 use std::fs::Permissions;
@@ -80,7 +82,9 @@ impl Door {
 
 impl Peer {
     /// Reads, as `Read` says.
-    pub fn read(&self, piece: &mut [u8]) -> io::Result<usize> {
+    pub fn read(&self, piece: &mut [u8]) -> io::Result<usize>
+        ensures { ReadsAtMost result piece.new }
+    {
         match self {
             Peer::OfPort(stream) => {
                 let mut reader = stream;
@@ -94,7 +98,9 @@ impl Peer {
     }
 
     /// Writes, as `Write` says.
-    pub fn write(&self, bytes: &[u8]) -> io::Result<usize> {
+    pub fn write(&self, bytes: &[u8]) -> io::Result<usize>
+        ensures { WritesAtMost result bytes.now }
+    {
         match self {
             Peer::OfPort(stream) => {
                 let mut writer = stream;
