@@ -1,6 +1,7 @@
 #!/usr/bin/env bash
 # Makes the Debian package conchpewter_VERSION-REVISION_amd64.deb of the proved program, by Debian's own tools (apt-get install build-essential
-# debhelper), and beside it tsc_VERSION-REVISION_all.deb, which has nothing and leads those who have the package by its former name to it.
+# debhelper); beside it conchpewter-import_VERSION-REVISION_all.deb with tsc-import, and tsc_VERSION-REVISION_all.deb, which has nothing and leads those
+# who have the package by its former name to it.
 #     packaging/build.sh [--program PATH] [--revision N] [FOLDER]
 # PATH is a program in place of the proved one, which ./build leaves at crates/collector_main/out/collector_main; FOLDER gets the packages
 # (default: packaging/out). The version is what the program prints, and must be the newest one of CHANGELOG.md.
@@ -27,6 +28,9 @@ tree=$room/conchpewter
 mkdir -p "$tree" "$folder"
 cp -R "$here/debian" "$here/pages" "$top/docs" "$top/examples" "$top/README.md" "$top/CHANGELOG.md" "$tree"
 cp "$here/launcher/tsc-run.c" "$tree"
+mkdir "$tree/import"
+cp "$here"/import/*.py "$here/import/tsc-import" "$tree/import"
+sed -i '1s|.*|#!/usr/bin/python3|' "$tree/import/tsc-import"
 mv "$tree/pages/tsc.1" "$tree/pages/conchpewter.1"
 "$here/configuration.sh" > "$tree/serve.toml"
 # The unit of further instances, tsc@NAME, is that of the service with other names.
@@ -38,7 +42,7 @@ install -m 755 "$program" "$tree/conchpewter"
 named=$(dpkg-parsechangelog -l "$tree/debian/changelog" -S Version)
 [ "$named" = "$version-$revision" ] || { echo "packaging/build.sh: the program says version $version, CHANGELOG.md ${named%-*}" >&2; exit 2; }
 (cd "$tree" && dpkg-buildpackage -b --no-sign) > "$room/log" 2>&1 || { tail -n 40 "$room/log" >&2; exit 1; }
-for it in "conchpewter_${named}_amd64.deb" "tsc_${named}_all.deb"; do
+for it in "conchpewter_${named}_amd64.deb" "conchpewter-import_${named}_all.deb" "tsc_${named}_all.deb"; do
     cp "$room/$it" "$folder"
     echo "$folder/$it"
 done

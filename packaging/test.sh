@@ -28,7 +28,7 @@ check() {
 }
 
 passes_lintian() {
-    lintian --allow-root --fail-on error,warning "$room"/packages/conchpewter_*-2_amd64.deb "$room"/packages/tsc_*-2_all.deb
+    lintian --allow-root --fail-on error,warning "$room"/packages/conchpewter_*-2_amd64.deb "$room"/packages/{conchpewter-import,tsc}_*-2_all.deb
 }
 
 is_shut_in() {
@@ -74,12 +74,12 @@ check passes_lintian passes_lintian
 check is_shut_in is_shut_in
 cat "$room/said"
 
-if [ ! -e "$kept/root.tar" ]; then
-    mmdebstrap --quiet --variant=minbase --include=systemd,systemd-sysv,libgcc-s1,curl,man-db,mawk bookworm "$kept/part.tar"
-    mv "$kept/part.tar" "$kept/root.tar"
+if [ ! -e "$kept/system.tar" ]; then
+    mmdebstrap --quiet --variant=minbase --include=systemd,systemd-sysv,libgcc-s1,curl,man-db,mawk,python3-yaml bookworm "$kept/part.tar"
+    mv "$kept/part.tar" "$kept/system.tar"
 fi
 mkdir "$room/root"
-tar -C "$room/root" -xf "$kept/root.tar"
+tar -C "$room/root" -xf "$kept/system.tar"
 cp -R "$room/packages" "$room/root/packages"
 install -m 755 "$here/test/inside.sh" "$room/root/packages/inside.sh"
 cat > "$room/root/etc/systemd/system/inside.service" <<'UNIT'

@@ -6,7 +6,7 @@ line on standard output.
 
 The lines are worked out by hand from OPERATING.md and the README's tables, the names of keys and types from the definitions (tests/tables.py): a line
 for each fault, first those of keys and values in the order of those tables (the keys that there aren't first), then those of what they give, where a value with a fault counts as its key's default, and a
-policy's list that isn't there as empty.
+policy's list that isn't there as empty; and behind the faults a line for each address that can't be one.
 """
 import sys
 
@@ -18,6 +18,8 @@ EMPTY = "policies: a list of policies is empty (fault 7.1)"
 NO_VALUES = "policies: the values or status codes of a policy are an empty list (fault 7.6)"
 SAME_NAME = "policies: two policies of one list have the same name (fault 7.4)"
 TYPES = ", ".join(policy_types())
+NO_LISTENER = "listen: no address: HOST:PORT, [IPV6]:PORT or :PORT is wanted (cannot listen)"
+NO_BACKEND = "export.endpoint: no address: HOST:PORT, with a port from 1 to 65535, is wanted behind http:// (cannot send)"
 TABLES = ("decision_cache", "export")
 WANTED = {"Integer": "a whole number is wanted", "Text": "a text is wanted", "Choice": "a text is wanted", "LogForm": "a text is wanted", "OutputFault": "a text is wanted", "Truth": "true or false is wanted"}
 
@@ -26,9 +28,55 @@ ROWS = [
     ("one policy", POLICIES, []),
     ("nothing", "", ["policies: missing (fault 3)", EMPTY]),
     ("comments alone", "# lanes = 65\n", ["policies: missing (fault 3)", EMPTY]),
-    ("no TOML", "lanes =\n", ["not TOML (fault 1)"]),
-    ("a key twice", f"lanes = 1\nlanes = 2\n{POLICIES}", ["not TOML (fault 1)"]),
-    ("unknown keys", f"queue = 1\nPolicies = 2\n\"a b\" = 3\n\"\" = 4\n{POLICIES}", ['"": no such key (fault 2)', "Policies: no such key (fault 2)", '"a b": no such key (fault 2)', "queue: no such key (fault 2)"]),
+    ("no TOML", "lanes =\n", ["not TOML; line 1, column 8 (fault 1)"]),
+    ("no TOML in the third line", f"lanes = 1\nlog = \"\u00fc\"\ntick_ms = 1 2\n{POLICIES}", ["not TOML; line 3, column 13 (fault 1)"]),
+    ("no TOML behind letters of two bytes", f"lanes = 1\nlog = \"\u00fc\u00fc\" x\n{POLICIES}", ["not TOML; line 2, column 12 (fault 1)"]),
+    ("a key twice", f"lanes = 1\nlanes = 2\n{POLICIES}", ["not TOML; line 2, column 1 (fault 1)"]),
+    ("unknown keys", f"queue = 1\nPolicies = 2\n\"a b\" = 3\n\"\" = 4\n{POLICIES}", ['"": no such key (fault 2)', "Policies: no such key; `policies` is (fault 2)", '"a b": no such key (fault 2)', "queue: no such key (fault 2)"]),
+    ("keys that are nearly there", f"decision_wait = 1\nroot_wait_s = 1\nnum_trace = 1\nmax_request_bytes = 1\nqueue_capcaity = 1\noutput_max = 1\nlans = 1\nlone = 1\n{POLICIES}", [
+        "decision_wait: no such key; `decision_wait_ms` is (fault 2)",
+        "lans: no such key; `lanes` is (fault 2)",
+        "lone: no such key (fault 2)",
+        "max_request_bytes: no such key; `max_request_mib` is (fault 2)",
+        "num_trace: no such key; `num_traces` is (fault 2)",
+        "output_max: no such key; `output_max_mib` is (fault 2)",
+        "queue_capcaity: no such key; `queue_capacity` is (fault 2)",
+        "root_wait_s: no such key; `root_wait_ms` is (fault 2)",
+    ]),
+    ("keys of the Collector", f"block_on_overflow = true\ndrop_pending_traces_on_shutdown = true\nendpoint = \"a\"\nexpected_new_traces_per_sec = 1\nlimit_mib = 1\nmax_request_body_size = 1\n"
+     f"num_workers = 1\nsampling_strategy = \"trace-complete\"\nexport = {{ endpoint = \"http://h:1/p\", compression = \"gzip\", encoding = \"json\", retry_on_failure = {{}}, sending_queue = {{}}, timeout = 1, tls = {{}}, traces_endpoint = \"a\" }}\n{POLICIES}", [
+        "block_on_overflow: no such key; leave it out: nothing waits for a decision (fault 2)",
+        "drop_pending_traces_on_shutdown: no such key; leave it out: at the close each trace that waits is decided (fault 2)",
+        "endpoint: no such key; `listen` is (fault 2)",
+        "expected_new_traces_per_sec: no such key; leave it out: memory is taken as traces come (fault 2)",
+        "limit_mib: no such key; `memory_limit_mib` is (fault 2)",
+        "max_request_body_size: no such key; `max_request_mib` is (fault 2)",
+        "num_workers: no such key; `lanes` and `shards` are (fault 2)",
+        "sampling_strategy: no such key; leave it out: each trace is decided once its wait is over (fault 2)",
+        "export.compression: no such key; leave it out: bodies are sent as they are (fault 2)",
+        "export.encoding: no such key; leave it out: JSON is sent (fault 2)",
+        "export.retry_on_failure: no such key; `retry_initial_ms`, `retry_max_ms` and `retry_for_ms` are (fault 2)",
+        "export.sending_queue: no such key; `queue_batches` is: how many batches wait (fault 2)",
+        "export.timeout: no such key; `timeout_ms` is (fault 2)",
+        "export.tls: no such key; leave it out: nothing is encrypted, which a proxy can do (fault 2)",
+        "export.traces_endpoint: no such key; `endpoint` is (fault 2)",
+    ]),
+    *((f"listens, {number}", f"listen = \"{where}\"\n{POLICIES}", [] if taken else [NO_LISTENER]) for number, (where, taken) in enumerate((
+        ("127.0.0.1:4318", True), (":4318", True), ("[::1]:0", True), ("::1:4318", True), ("a_b.c-d:65535", True), ("", False), ("4318", False), ("localhost", False), ("localhost:65536", False),
+        ("localhost:http", False), ("a b:4318", False), ("[host]:4318", False), ("http://127.0.0.1:4318", False), ("unix:run.sock", False)))),
+    ("other addresses", f"admin = \"/run/tsc.sock\"\nmetrics = \"unix:\"\nexport = {{ endpoint = \"http://h/v1/traces\" }}\n{POLICIES}", [
+        "admin: no address: a socket's path begins with unix: (cannot listen)",
+        "metrics: no address: no path stands behind unix: (cannot listen)",
+        NO_BACKEND,
+    ]),
+    ("other addresses, otherwise", f"admin = \"unix:{'a' * 104}\"\nmetrics = \"h\"\nexport = {{ endpoint = \"http://h:0/v1/traces\" }}\n{POLICIES}", [
+        "admin: no address: a socket's path has at most 103 bytes (cannot listen)",
+        "metrics: no address: HOST:PORT, [IPV6]:PORT, :PORT or unix:PATH is wanted (cannot listen)",
+        NO_BACKEND,
+    ]),
+    ("other addresses that may be one", f"admin = \"unix:{'a' * 103}\"\nmetrics = \"\"\nexport = {{ endpoint = \"http://[::1]:1/\" }}\n{POLICIES}", []),
+    ("addresses behind faults", f"listen = \"x\"\nlanes = 0\n{POLICIES}", ["lanes: 0 is not from 1 to 64 (fault 5)", NO_LISTENER]),
+    ("addresses of another type", f"listen = 1\nadmin = true\n{POLICIES}", ["listen: a text is wanted (fault 4)", "admin: a text is wanted (fault 4)"]),
     ("a key of two lines", f"\"a\\nb\" = 1\n{POLICIES}", ['"a\\nb": no such key (fault 2)']),
     ("two names of one setting", f"decision_wait_after_root_received_ms = -1\nroot_wait_ms = 2\nwait = 3\n{POLICIES}", [
         "wait: no such key (fault 2)",
@@ -66,7 +114,7 @@ ROWS = [
         "export.headers: a name or a text that can't be sent, or a field that is the collector's own (fault 5)",
     ]),
     ("fields of another type", f"export = {{ headers = {{ Host = \"h\", a = 1 }} }}\n{POLICIES}", ["export.endpoint: missing (fault 3)", "export.headers: a table of texts is wanted (fault 4)"]),
-    ("no table of fields", f"export = {{ endpoint = \"http://h/\", headers = [\"a\"] }}\n{POLICIES}", ["export.headers: a table of texts is wanted (fault 4)"]),
+    ("no table of fields", f"export = {{ endpoint = \"http://h:1/\", headers = [\"a\"] }}\n{POLICIES}", ["export.headers: a table of texts is wanted (fault 4)"]),
     ("few traces", f"num_traces = 1\nshards = 2\n{POLICIES}", ["num_traces: fewer than shards (fault 6)"]),
     ("few traces by a default", f"num_traces = 1\nshards = 65\n{POLICIES}", ["shards: 65 is not from 1 to 64 (fault 5)"]),
     ("few traces and a fault", f"num_traces = 1\nshards = 2\nlanes = 0\n{POLICIES}", ["lanes: 0 is not from 1 to 64 (fault 5)", "num_traces: fewer than shards (fault 6)"]),
@@ -85,7 +133,7 @@ ROWS = [
     ("no status code", 'policies = [{ name = "c", type = "status_code", status_code = { status_codes = ["ERR"] } }]', [
         'policies[0].status_code.status_codes[0]: "ERR" is none of OK, ERROR, UNSET (fault 5)', NO_VALUES]),
     ("latency", 'policies = [{ name = "a", type = "latency", latency = { upper_threshold_ms = -1, threshold = 2 } }]', [
-        "policies[0].latency.threshold: no such key (fault 2)", "policies[0].latency.threshold_ms: missing (fault 3)", "policies[0].latency.upper_threshold_ms: -1 is below 0 (fault 5)"]),
+        "policies[0].latency.threshold: no such key; `threshold_ms` is (fault 2)", "policies[0].latency.threshold_ms: missing (fault 3)", "policies[0].latency.upper_threshold_ms: -1 is below 0 (fault 5)"]),
     ("attributes", 'policies = [{ name = "a", type = "string_attribute", string_attribute = { values = [1, true], invert_match = 1 } },'
      ' { name = "b", type = "numeric_attribute", numeric_attribute = { key = 1, min_value = 0.5 } },'
      ' { name = "c", type = "boolean_attribute", boolean_attribute = { key = "k" } }]', [

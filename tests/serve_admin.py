@@ -197,6 +197,90 @@ def in_charge_by_a_socket(start):
         want("`tsc close` where there is none", (ran.returncode, ran.stdout), (6, b"tsc: cannot close\n"))
 
 
+def numbers_alone(start):
+    """Numbers and health alone are told at `metrics`, at once while a hundred clients say nothing there; whatever else is asked isn't found. Silent ones don't hold up `admin` either."""
+    admin, metrics = free_port(), free_port()
+    collector = start(f'admin = "127.0.0.1:{admin}"\nmetrics = "127.0.0.1:{metrics}"\ndecision_wait_ms = 50\ntick_ms = 50\n' + ALL)
+    want("the answer", collector.ask(post(body_of([ERROR_SPAN])))[0], 200)
+    comes_to("what is handed over", lambda: scrape(metrics)["tsc_spans_handed_total"], 1)
+    for port in (metrics, admin):
+        silent = [Client(port) for _ in range(100)]
+        for _ in range(5):
+            began = time.monotonic()
+            want("the spans behind a hundred silent ones", scrape(port)["tsc_spans_received_total"], 1)
+            at_most("the wait behind a hundred silent ones", 1, began)
+        began = time.monotonic()
+        want("the health behind them", asked(port, get("/healthz"))[::2], (200, "ok\n"))
+        at_most("the wait for the health", 1, began)
+        want("the first, which was let go for others", silent[0].rest(), b"")
+        for client in silent:
+            client.close()
+    foreign = "Origin: http://evil.example"
+    for data in (get("/config"), get("/close"), post(b"", "/close"), post(b"", "/reopen"), get("/reopen"), post(b"", "/close", fields=[foreign]), get("/")):
+        want(f"the answer to {data[:14]!r} at metrics", asked(metrics, data)[::2], (404, '{"message":"not found"}'))
+    for data in (post(b"", "/metrics"), post(b"", "/healthz", fields=[foreign]), get("/metrics", "HEAD")):
+        got = asked(metrics, data, not data.startswith(b"HEAD"))
+        want(f"the answer to {data[:14]!r} at metrics", (got[0], got[1]["allow"]), (405, "get"))
+    want("the answer to /close", asked(admin, post(b"", "/close"))[::2], (200, "{}"))
+    want("the report", collector.end()[1], [1, 1, 0, 0, 0, 0, 0, 0, 0])
+
+
+def numbers_by_a_socket(start):
+    """The address of numbers alone may be a socket's file, which is removed at the end; where it can't be made, that of `admin` is removed too."""
+    with tempfile.TemporaryDirectory() as folder:
+        paths = [os.path.join(folder, name) for name in ("admin.sock", "metrics.sock")]
+        settings = 'admin = "unix:{}"\nmetrics = "unix:{}"\n'.format(*paths) + ALL
+        collector = start(settings)
+        comes_to("what is there", lambda: sorted(os.listdir(folder)), ["admin.sock", "metrics.sock"])
+        want("health at metrics", asked_at_a_socket(paths[1], get("/healthz")), (200, b"ok\n"))
+        want("the configuration there", asked_at_a_socket(paths[1], get("/config"))[0], 404)
+        want("the answer to /close there", asked_at_a_socket(paths[1], post(b"", "/close"))[0], 404)
+        other = os.path.join(folder, "other.toml")
+        with open(other, "w", encoding="utf-8") as file:
+            file.write(f'listen = "127.0.0.1:0"\nlog = "text"\nadmin = "unix:{folder}/other.sock"\nmetrics = "unix:{paths[1]}"\n' + ALL)
+        ran = subprocess.run([start.program, "serve", other], stdin=subprocess.DEVNULL, capture_output=True, timeout=60, check=False)
+        want("a second one there", (ran.returncode, ran.stdout), (6, b"tsc: cannot listen\n"))
+        want("that the log names it", f'ERROR cannot_listen what="unix:{paths[1]}"'.encode() in ran.stderr, True)
+        want("what is there behind it", sorted(os.listdir(folder)), ["admin.sock", "metrics.sock", "other.toml"])
+        want("the answer to /close", asked_at_a_socket(paths[0], post(b"", "/close")), (200, b"{}"))
+        want("the report", collector.end()[1], [0] * 9)
+        want("what is left", os.listdir(folder), ["other.toml"])
+
+
+def asks_to_reopen(start):
+    """`POST /reopen` is answered at `admin` as `/close` is, refused to pages of other sites, and closes nothing."""
+    admin = free_port()
+    collector = start(f'admin = "127.0.0.1:{admin}"\n' + ALL)
+    want("the answer", asked(admin, post(b"", "/reopen"))[::2], (200, "{}"))
+    for fields in (["Origin: http://evil.example"], ["Sec-Fetch-Site: cross-site"]):
+        want(f"the answer with {fields}", asked(admin, post(b"", "/reopen", fields=fields))[::2], (403, '{"message":"forbidden"}'))
+    got = asked(admin, get("/reopen"))
+    want("the answer to another method", (got[0], got[1]["allow"]), (405, "post"))
+    want("/reopen at listen", collector.ask(post(b"", "/reopen"))[0], 404)
+    want("the spans", collector.ask(post(body_of([ERROR_SPAN])))[0], 200)
+    want("health", asked(admin, get("/healthz"))[::2], (200, "ok\n"))
+    want("the answer to /close", asked(admin, post(b"", "/close"))[::2], (200, "{}"))
+    want("the report", collector.end()[1], [1, 1, 0, 0, 0, 0, 0, 0, 0])
+
+
+def slow_questions(start):
+    """One who sends a byte now and then is let go after ten seconds in all."""
+    admin = free_port()
+    collector = start(f'admin = "127.0.0.1:{admin}"\n' + ALL)
+    client, began = Client(admin), time.monotonic()
+    try:
+        for _ in range(100):
+            client.send(b"G")
+            time.sleep(0.3)
+    except OSError:
+        pass
+    if not 9 < time.monotonic() - began < 15:
+        raise Failure(f"it was let go after {time.monotonic() - began:.1f} seconds")
+    client.close()
+    want("the answer to /close", asked(admin, post(b"", "/close"))[::2], (200, "{}"))
+    want("the report", collector.end()[1], [0] * 9)
+
+
 def odd_questions(start):
     """What those in charge are answered to what they can't ask, and that one who says nothing doesn't hold another for long."""
     admin = free_port()
@@ -417,6 +501,10 @@ CHECKS = [
     in_charge_by_a_socket,
     pages_of_other_sites,
     told_by_shards,
+    numbers_alone,
+    numbers_by_a_socket,
+    asks_to_reopen,
+    slow_questions,
     odd_questions,
     answers_by_status,
     head_in_pieces,

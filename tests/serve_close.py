@@ -5,8 +5,9 @@ import socket
 import subprocess
 import tempfile
 import threading
+import time
 
-from collector import ALL, ERROR_SPAN, body_of, post, want
+from collector import ALL, ERROR_SPAN, Client, Failure, body_of, post, want
 from serve_admin import free_port
 
 CANNOT = (6, b"tsc: cannot close\n", b"")
@@ -66,4 +67,40 @@ def answers_otherwise(start):
             want("the request", asked, [b"POST /close HTTP/1.1\r\nHost: tsc\r\nContent-Length: 0\r\nConnection: close\r\n\r\n"])
 
 
-CHECKS = [not_closed_at_requests, nothing_to_close, answers_otherwise]
+def clients_as_it_closes(start):
+    """Forty clients who connect from just before a close until the collector has ended are all answered, by 200 or by 503 `closing`, or find nobody who listens;
+    none is cut off. A backend that is away keeps the collector closing for two seconds."""
+    away = f'[export]\nendpoint = "http://127.0.0.1:{free_port()}/v1/traces"\nclose_wait_ms = 2000\n'
+    collector = start(ALL + away)
+    want("the answer", collector.ask(post(body_of([ERROR_SPAN])))[::2], (200, "{}"))
+    ends = []
+
+    def ask(after):
+        time.sleep(after)
+        try:
+            connection = Client(collector.port)
+        except ConnectionRefusedError:
+            ends.append("nobody")
+            return
+        try:
+            connection.send(post(body_of([])))
+            status, _, body = connection.answer()
+            ends.append("taken" if (status, body) == (200, "{}") else "closing" if (status, body) == (503, '{"message":"closing"}') else (status, body))
+        except (OSError, Failure) as error:
+            ends.append(f"cut off: {error!r}")
+        finally:
+            connection.close()
+
+    threads = [threading.Thread(target=ask, args=(number * 0.08,)) for number in range(40)]
+    for thread in threads:
+        thread.start()
+    time.sleep(0.2)
+    want("the close", collector.ask(post(b"", "/close"))[0], 200)
+    for thread in threads:
+        thread.join()
+    collector.end()
+    want("how else a client ended", [it for it in ends if it not in ("taken", "closing", "nobody")], [])
+    want("whether some were told that it closes", ends.count("closing") >= 10, True)
+
+
+CHECKS = [not_closed_at_requests, nothing_to_close, answers_otherwise, clients_as_it_closes]

@@ -1,5 +1,5 @@
-"""Checks of `tsc serve` as it is run: an output that stalls while ticks go on, a wall clock that is set, large batches, and what it says on standard
-error."""
+"""Checks of `tsc serve` as it is run: an output that stalls while ticks go on, a wall clock that is set, large batches, what it says on standard
+error, and what its numbers tell of that."""
 
 import gzip
 import json
@@ -12,9 +12,10 @@ import tempfile
 import threading
 import time
 
-from collector import ALL, ERROR_SPAN, ERRORS, body_of, post, want
-from serve_admin import free_port
+from collector import ALL, ERROR_SPAN, ERRORS, Failure, body_of, post, want
+from serve_admin import comes_to, free_port, scrape
 from serve_faults import library_of
+from serve_limits import at_most
 
 LINE = re.compile(r"(\d{4}-\d\d-\d\dT\d\d:\d\d:\d\d(?:\.\d+)?Z) (INFO|WARN|ERROR) (\w+)((?: \w+=(?:\d+|\"[^\"]*\"))*)$")
 
@@ -169,4 +170,64 @@ def listens_everywhere(start):
         ran.stderr.close()
 
 
-CHECKS = [listens_everywhere, ticks_wait_for_spans, batches_of_the_collector, is_logged, says_what_cannot_be] + ([waits_by_time_that_passes] if shutil.which("cc") else [])
+def output_that_stalls(start):
+    """For how long a write is under way is told while the output's reader stands still, and 0 once it reads on; for how long the oldest trace has waited, too."""
+    metrics = free_port()
+    reader, writer = os.pipe()
+    collector = start(f'metrics = "127.0.0.1:{metrics}"\ndecision_wait_ms = 3600000\nroot_wait_ms = 1\ntick_ms = 50\n' + ALL, output=writer)
+    os.close(writer)
+    told = lambda name: scrape(metrics)[name]
+    want("before anything", [told("tsc_output_stalled_seconds"), told("tsc_oldest_waiting_seconds")], [0, 0])
+    began = time.monotonic()
+    want("the answer", collector.ask(post(body_of([{"traceId": "1" * 32, "spanId": "1" * 16, "parentSpanId": "2" * 16}])))[0], 200)
+    attributes = [{"key": "x", "value": {"stringValue": "x" * 100000}}]
+    for number in range(1, 4):
+        span = {"traceId": f"{number:032x}", "spanId": f"{number:016x}", "attributes": attributes}
+        want("the answer", collector.ask(post(body_of([span])))[0], 200)
+    while told("tsc_output_stalled_seconds") < 2:
+        at_most("the time until a stall of two seconds is told", 30, began)
+        time.sleep(0.1)
+    passed = time.monotonic() - began
+    for name in ("tsc_output_stalled_seconds", "tsc_oldest_waiting_seconds"):
+        if not 1 <= told(name) <= passed + 1:
+            raise Failure(f"{name} is {told(name)} after {passed:.1f} seconds")
+    kept = []
+    reading = threading.Thread(target=lambda: kept.append(open(reader, "rb").read()))
+    reading.start()
+    comes_to("the stall once it is read", lambda: told("tsc_output_stalled_seconds"), 0)
+    want("the answer", collector.ask(post(body_of([{"traceId": "1" * 32, "spanId": "3" * 16}])))[0], 200)
+    comes_to("the oldest once it is decided", lambda: told("tsc_oldest_waiting_seconds"), 0)
+    want("the answer to /close", collector.ask(post(b"", "/close"))[::2], (200, "{}"))
+    collector.end()
+    reading.join()
+    want("the report", kept[0].decode().splitlines()[-9:][:2], ["received 5", "handed 5"])
+
+
+def lines_of_the_log(start):
+    """What the log warns of and what it calls an error is counted, and jumps of the wall clock also where nothing is logged."""
+    for log, warnings, errors in (("text", 1, 1), ("off", 0, 0)):
+        metrics = free_port()
+        with tempfile.TemporaryDirectory() as folder:
+            shift = os.path.join(folder, "shift")
+            surroundings = {"LD_PRELOAD": library_of("shifted_clock", folder), "SHIFT": shift}
+            reader, writer = os.pipe()
+            os.close(reader)
+            settings = f'log = "{log}"\nmetrics = "127.0.0.1:{metrics}"\ndecision_wait_ms = 50\ntick_ms = 50\noutput_fault = "discard"\n'
+            collector = start(settings + ALL, output=writer, surroundings=surroundings)
+            os.close(writer)
+            names = ["tsc_clock_jumps_total", 'tsc_log_lines_total{level="warn"}', 'tsc_log_lines_total{level="error"}']
+            told = lambda: [numbers[name] for numbers in [scrape(metrics)] for name in names]
+            want("before", told(), [0, 0, 0])
+            with open(shift, "w", encoding="utf-8") as file:
+                file.write("-3600")
+            comes_to("behind a jump", told, [1, warnings, 0])
+            want("the answer", collector.ask(post(body_of([ERROR_SPAN])))[0], 200)
+            comes_to("behind a write that failed", told, [1, warnings, errors])
+            want("the answer to /close", collector.ask(post(b"", "/close"))[::2], (200, "{}"))
+            collector.end(1)
+            want("the lines", (collector.said.count(" WARN "), collector.said.count(" ERROR output_failed\n")), (warnings, errors))
+
+
+CHECKS = [listens_everywhere, ticks_wait_for_spans, batches_of_the_collector, is_logged, says_what_cannot_be, output_that_stalls] + (
+    [waits_by_time_that_passes, lines_of_the_log] if shutil.which("cc") else []
+)

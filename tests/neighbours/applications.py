@@ -20,7 +20,7 @@ CODEC = "usr/lib/python3/dist-packages"
 class Backend:
     """What takes the Collector's requests, as a backend does, and keeps their spans."""
 
-    def __init__(self):
+    def __init__(self, port=0):
         kept = self.bodies = []
 
         class Handler(http.server.BaseHTTPRequestHandler):
@@ -41,7 +41,7 @@ class Backend:
             def log_message(self, *_):
                 """Says nothing."""
 
-        self.server = http.server.ThreadingHTTPServer(("127.0.0.1", 0), Handler)
+        self.server = http.server.ThreadingHTTPServer(("127.0.0.1", port), Handler)
         self.port = self.server.server_port
         threading.Thread(target=self.server.serve_forever, daemon=True).start()
 

@@ -19,6 +19,7 @@ use std::io;
 use std::io::{Read, Write};
 use std::net::{Net, TcpListener, TcpStream};
 use std::rt::Files;
+use std::time::Clock;
 use tsc_config::{Config, OutputFault};
 
 /// A mebibyte.
@@ -78,18 +79,15 @@ pub fn serve_by<
     {
         return (writer, Outcome::NoMemory);
     }
-    let output = match output_of(rt, alloc, &config, &charge.reopen) {
-        Ok(output) => output,
-        Err(error) => {
-            let path = config.output.as_str();
-            say_fault(rt, alloc, &mut events, "cannot_write", path, error);
-            return (writer, Outcome::CannotWrite);
-        }
+    let Ok(output) = opened_output(rt, alloc, &config, &charge.reopen, &mut events) else {
+        return (writer, Outcome::CannotWrite);
     };
-    let Ok(listener) = opened(rt, alloc, &config, &charge, around.input, &mut events) else {
+    let Ok((listener, door)) = opened(rt, alloc, &config, &charge, around.input, &mut events) else {
         return (writer, Outcome::CannotListen);
     };
     let ended = serve_to(rt, alloc, config, &listener, &charge, output, writer);
+    door.end(rt, &charge);
+    drop(listener);
     charge.removes_sockets(rt);
     say_end(rt, alloc, &mut events, &charge, &ended.1);
     ended
@@ -128,6 +126,27 @@ fn serve_to<
             let writer = RetryingWriter::new(rt, writer, retries, &watch);
             let (writer, outcome) = serve_with(rt, alloc, config, listener, shared, writer);
             (writer.end(), outcome)
+        }
+    }
+}
+
+/// The output's file, where the configuration names one and lines are printed. An error, which is said: it can't be
+/// opened.
+fn opened_output<'s, T: Files<File = File> + Clock, E: Write + Drop>(
+    rt: &'s T,
+    alloc: Global,
+    config: &Config,
+    mark: &'s ReopenMark,
+    events: &mut EventWriter<E>,
+) -> io::Result<Option<OutputFile<'s, FilesPlace<'s, T>>>>
+    ensures { IfOk result (λ output. is_some output ≡ writes_file config.now) }
+{
+    match output_of(rt, alloc, config, mark) {
+        Ok(output) => Ok(output),
+        Err(error) => {
+            let path = config.output.as_str();
+            say_fault(rt, alloc, events, "cannot_write", path, error);
+            Err(error)
         }
     }
 }

@@ -1,5 +1,6 @@
 //! What the program says of a run on standard error.
 use crate::asking::VERSION;
+use crate::changed_settings::changed_settings;
 use crate::program::Outcome;
 use collector_serve::{Charge, EventWriter};
 use drop_ledger::{Count, Report};
@@ -48,6 +49,19 @@ pub fn say_start<W: Write + Drop, R: Clock>(
         number("memory_limit_mib", config.memory_limit_mib),
     ];
     events.say(rt, alloc, Level::Info, "starting", &fields);
+}
+
+/// Says which settings of a run aren't those that count where a configuration doesn't name them.
+pub fn say_settings<W: Write + Drop, R: Clock>(
+    rt: &R,
+    alloc: Global,
+    events: &mut EventWriter<W>,
+    charge: &Charge,
+) {
+    if let Ok(names) = changed_settings(alloc, charge.configuration.as_str()) {
+        let fields = [text("not_default", names.as_str())];
+        events.say(rt, alloc, Level::Info, "settings", &fields);
+    }
 }
 
 /// Says that requests are taken.

@@ -6,6 +6,7 @@
 #![tactic(auto)]
 
 mod asking;
+mod changed_settings;
 mod closing;
 mod collecting;
 mod configuration;

@@ -5,11 +5,11 @@ ghost use Rattle.tsc_config.specs.Reading.{reading};
 ghost use Rattle.collector_main.specs.Configuration.{file_of};
 
 use crate::configuration::FileFault;
-use crate::logging::{say_fault, say_listening};
+use crate::logging::{say_fault, say_listening, say_settings};
 use admin_http::Access;
 use collector_serve::{
-    Board, Charge, EventWriter, MEMORY_ACCOUNT, StopMark, close_at_end, end_admin, listen,
-    start_admin, start_log_watch, start_memory_watch,
+    Board, Charge, ClosingDoor, EventWriter, MEMORY_ACCOUNT, OutputStall, StopMark, close_at_end,
+    end_admin, listen, start_admin, start_log_watch, start_memory_watch,
 };
 use config_text::settings_in_force;
 use lane_driver::Loads;
@@ -51,6 +51,7 @@ pub fn charge_of(
     let charge = Charge {
         configuration: settings_in_force(alloc, text?.as_str())?,
         stop: StopMark::new(),
+        over: StopMark::new(),
         board: Board::new(alloc, config.shards, &config.policies)?,
         silent: Board::new(alloc, config.shards, &config.policies)?,
         loads: Arc::new(alloc, Loads::new(alloc, config.lanes as usize)?)?,
@@ -58,12 +59,13 @@ pub fn charge_of(
         reopen: ReopenMark::new(),
         output: config.output.try_clone(alloc)?,
         metrics_address: config.metrics.try_clone(alloc)?,
+        stall: OutputStall::new(),
     };
     Ok(Arc::new(alloc, charge)?)
 }
 
-/// Looks at a run: at what memory the process takes, where the configuration limits that or somebody is told, and at
-/// what is to be said of the run, where something is.
+/// Says which settings aren't default, and looks at a run: at what memory the process takes, where the configuration
+/// limits that or somebody is told, and at what is to be said of the run, where something is.
 pub fn watches<
     T: Files<File = File>
         + Net<Listener = TcpListener, Stream = TcpStream>
@@ -80,6 +82,7 @@ pub fn watches<
     errors: E,
     events: &mut EventWriter<E>,
 ) -> io::Result<()> {
+    say_settings(rt, alloc, events, charge);
     if let Err(error) = watches_memory(rt, config, charge) {
         say_fault(
             rt,
@@ -91,11 +94,16 @@ pub fn watches<
         );
         return Err(error);
     }
-    if config.log != LogForm::Off {
+    if config.log != LogForm::Off || is_told(config) {
         let watched = EventWriter::new(errors, config.log);
         start_log_watch(rt, alloc, watched, Arc::try_clone(charge)?)?;
     }
     Ok(())
+}
+
+/// Whether somebody may be told numbers.
+fn is_told(config: &Config) -> bool {
+    !config.admin.as_str().is_empty() || !config.metrics.as_str().is_empty()
 }
 
 /// Looks at what memory the process takes, for those who are told, and refuses requests while it is more than the
@@ -108,8 +116,7 @@ fn watches_memory<
         + Send
         + 'static,
 >(rt: &T, config: &Config, charge: &Arc<Charge, Global>) -> io::Result<()> {
-    let tells = !config.admin.as_str().is_empty() || !config.metrics.as_str().is_empty();
-    if config.memory_limit_mib == 0 && !tells {
+    if config.memory_limit_mib == 0 && !is_told(config) {
         return Ok(());
     }
     let account = fs::open(rt, MEMORY_ACCOUNT)?;
@@ -144,7 +151,8 @@ fn answers_at<
 }
 
 /// Listens at the address of requests, and, as the configuration says, at that for those in charge, at that of numbers
-/// alone, and to the end of the input.
+/// alone, and to the end of the input. Beside the listener it gives what answers clients who connect to it as the
+/// collector closes.
 pub fn opened<
     T: Files<File = File>
         + Net<Listener = TcpListener, Stream = TcpStream>
@@ -161,7 +169,7 @@ pub fn opened<
     charge: &Arc<Charge, Global>,
     input: I,
     events: &mut EventWriter<E>,
-) -> io::Result<TcpListener> {
+) -> io::Result<(TcpListener, ClosingDoor)> {
     let address = config.listen.as_str();
     let listener = match listen(rt, alloc, address) {
         Ok(listener) => listener,
@@ -180,6 +188,7 @@ pub fn opened<
     if config.close_at_end_of_input {
         close_at_end(rt, input, Arc::try_clone(charge)?)?;
     }
+    let door = ClosingDoor::start(rt, alloc, &listener, Arc::try_clone(charge)?)?;
     say_listening(rt, alloc, events, address);
-    Ok(listener)
+    Ok((listener, door))
 }

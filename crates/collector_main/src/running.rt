@@ -59,7 +59,14 @@ fn print_with<'s, T: Net + Machine, W: Write + Drop>(
     let clock = SteadyClock::new(rt);
     let stops = config.output_fault == OutputFault::Stop;
     let written = WriteSink::new(writer);
-    let sink = StoppingSink::new(written, &shared.stop, stops, &shared.board);
+    let sink = StoppingSink::new(
+        rt,
+        written,
+        &shared.stop,
+        stops,
+        &shared.board,
+        &shared.stall,
+    );
     let context = RunContext {
         rt,
         alloc,

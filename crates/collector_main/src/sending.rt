@@ -147,7 +147,7 @@ fn serve_through<'s, D: Driver + Send + Drop, T: Machine, S: Sink + Drop>(
 {
     let clock = SteadyClock::new(rt);
     let stops = config.output_fault == OutputFault::Stop;
-    let sink = StoppingSink::new(sink, &shared.stop, stops, &shared.silent);
+    let sink = StoppingSink::new(rt, sink, &shared.stop, stops, &shared.silent, &shared.stall);
     let config = with_export_room(config);
     let context = RunContext {
         rt,

@@ -1,7 +1,7 @@
 -- Worked rows, computed: a process that may take 800 bytes, and requests to a backend.
 -- They serve the definitions that `MemoryRule`, `request_fields` and `with_export_room` promise.
 use Rattle.std.specs.Prelude.{◌≡◌, ℕ, true, false, [], ◌∷◌, map, codes, refl}
-use Rattle.collector_serve.specs.Moments.{moment_after}
+use Rattle.collector_serve.specs.Moments.{moment_after, stalled_seconds}
 use Rattle.collector_serve.specs.Requests.{room_of, request_fields}
 use Rattle.collector_serve.specs.Memory.{MemoryState, is_short, is_shorter, memory_after}
 
@@ -61,3 +61,8 @@ moments_after = refl
 
 latest_moment : moment_after 18446744073709551614 5000000 ≡ 18446744073709551615
 latest_moment = refl
+
+-- no write; one that began in the first millisecond; one of 1,999 and one of 2,000 milliseconds; one that began later
+stalls : stalled_seconds 0 5000 ∷ stalled_seconds 1 3000 ∷ stalled_seconds 501 2499 ∷ stalled_seconds 501 2500 ∷ stalled_seconds 502 500 ∷ []
+    ≡ 0 ∷ 3 ∷ 1 ∷ 2 ∷ 0 ∷ []
+stalls = refl

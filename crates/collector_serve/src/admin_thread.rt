@@ -97,10 +97,10 @@ impl Reception {
         let theirs = Arc::try_clone(&visit)?;
         let charge = Arc::try_clone(&self.charge)?;
         let access = self.access;
-        let uptime = seconds_since(rt, self.began);
+        let began = self.began;
         let own = *rt;
         let thread = thread::spawn(rt, move || {
-            theirs.answer(&own, alloc, access, &charge, uptime)
+            theirs.answer(&own, alloc, access, &charge, began)
         })?;
         self.visits.push_back(Visiting { visit, thread })?;
         Ok(())
@@ -124,15 +124,4 @@ fn has_room(count: usize) -> bool
     ensures { result ≡ nat_lt count AT_ONCE }
 {
     count < AT_ONCE
-}
-
-/// Seconds since then, and 0 where the clock doesn't tell.
-fn seconds_since<R: Clock>(rt: &R, began: Option<Instant>) -> u64 {
-    let Some(began) = began else {
-        return 0;
-    };
-    match began.elapsed(rt) {
-        Ok(since) => since.as_secs(),
-        Err(_) => 0,
-    }
 }

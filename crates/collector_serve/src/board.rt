@@ -1,6 +1,7 @@
 //! What all threads of a run have counted, for readers while it runs.
 use batch_post::AttemptOutcome;
 use drop_ledger::{Count, Report};
+use event_log::Level;
 use lane_queue::{Brake, Gate, GatePlace, ShardLoad};
 use metrics_text::{PolicyNumbers, ShardNumbers};
 use otlp_types::{Text, TryClone};
@@ -18,6 +19,7 @@ struct ShardCells {
     queued: AtomicU64,
     traces: AtomicU64,
     spans: AtomicU64,
+    waited: AtomicU64,
 }
 
 impl ShardCells {
@@ -27,6 +29,7 @@ impl ShardCells {
             queued: AtomicU64::new(0),
             traces: AtomicU64::new(0),
             spans: AtomicU64::new(0),
+            waited: AtomicU64::new(0),
         }
     }
 }
@@ -84,6 +87,14 @@ pub struct Board {
     attempts_refused: AtomicU64,
     /// Attempts to send a line that had no answer.
     attempts_unanswered: AtomicU64,
+    /// Spans with valid ids of which attributes were left out.
+    incomplete: AtomicU64,
+    /// Lines of the log that warned.
+    log_warnings: AtomicU64,
+    /// Lines of the log that told an error.
+    log_errors: AtomicU64,
+    /// Jumps of the wall clock.
+    clock_jumps: AtomicU64,
     /// The moment since which writes of the output fail and are tried again, and 0: they don't.
     failing_since: AtomicU64,
     /// The system's number of the error by which that began, and 0: nothing was taken.
@@ -121,6 +132,10 @@ impl Board {
             attempts_taken: AtomicU64::new(0),
             attempts_refused: AtomicU64::new(0),
             attempts_unanswered: AtomicU64::new(0),
+            incomplete: AtomicU64::new(0),
+            log_warnings: AtomicU64::new(0),
+            log_errors: AtomicU64::new(0),
+            clock_jumps: AtomicU64::new(0),
             failing_since: AtomicU64::new(0),
             failing_code: AtomicU64::new(0),
         })
@@ -189,6 +204,11 @@ impl Board {
         )
     }
 
+    /// How many spans with valid ids came of which attributes were left out, by their sender or as they hold a double.
+    pub fn incomplete(&self) -> u64 {
+        self.incomplete.load(Ordering::Relaxed)
+    }
+
     /// Since this moment writes of the output fail, by the system's error of this number, or by 0 where they take nothing,
     /// and are tried again.
     pub fn output_fails(&self, moment: u64, code: u64) {
@@ -209,6 +229,45 @@ impl Board {
             return None;
         }
         Some((since, self.failing_code.load(Ordering::Relaxed)))
+    }
+
+    /// The log has a line of this level.
+    pub fn logs(&self, level: Level) {
+        match level {
+            Level::Info => {}
+            Level::Warning => {
+                self.log_warnings.fetch_add(1, Ordering::Relaxed);
+            }
+            Level::Error => {
+                self.log_errors.fetch_add(1, Ordering::Relaxed);
+            }
+        }
+    }
+
+    /// How many lines of the log warned, and how many told an error.
+    pub fn logged(&self) -> (u64, u64) {
+        let warnings = self.log_warnings.load(Ordering::Relaxed);
+        (warnings, self.log_errors.load(Ordering::Relaxed))
+    }
+
+    /// The wall clock was seen to jump.
+    pub fn jumps(&self) {
+        self.clock_jumps.fetch_add(1, Ordering::Relaxed);
+    }
+
+    /// How often the wall clock was seen to jump.
+    pub fn jumped(&self) -> u64 {
+        self.clock_jumps.load(Ordering::Relaxed)
+    }
+
+    /// For how long the trace has waited that has waited the longest, in milliseconds, as the shards told last; 0 where
+    /// none waits.
+    pub fn longest_wait(&self) -> u64 {
+        let mut longest: u64 = 0;
+        for cells in &self.shards {
+            longest = longest.max(cells.waited.load(Ordering::Relaxed));
+        }
+        longest
     }
 
     /// The output took these bytes, which may end a line.
@@ -333,11 +392,16 @@ impl Gate for Board {
         }
     }
 
+    fn takes_incomplete(&self) {
+        self.incomplete.fetch_add(1, Ordering::Relaxed);
+    }
+
     fn holds(&self, shard: u16, load: ShardLoad) {
         if let Some(cells) = self.shards.get(shard as usize) {
             cells.queued.store(load.queued, Ordering::Relaxed);
             cells.traces.store(load.traces, Ordering::Relaxed);
             cells.spans.store(load.spans, Ordering::Relaxed);
+            cells.waited.store(load.waited, Ordering::Relaxed);
         }
     }
 

@@ -3,6 +3,7 @@ ghost use Rattle.std.specs.Prelude.{◌≡◌};
 
 use crate::admin_door::end_admin;
 use crate::board::Board;
+use crate::output_stall::OutputStall;
 use crate::stop_mark::{Closer, StopMark};
 use admin_http::Admin;
 use http_lane::HasStopMark;
@@ -15,6 +16,7 @@ use std::io::Read;
 use std::rt::Files;
 use std::sync::{Arc, Wait};
 use std::thread::Threads;
+use std::time::{Clock, Instant};
 use std::{io, thread};
 
 /// What a collector shares with those in charge of it.
@@ -22,10 +24,14 @@ use std::{io, thread};
 pub struct Charge {
     /// The mark to stop.
     pub stop: StopMark,
+    /// The mark that the run is over.
+    pub over: StopMark,
     /// The counts while it runs.
     pub board: Board,
     /// A board that nobody reads, for a sink whose lines are told otherwise.
     pub silent: Board,
+    /// Since when a write of the output has been under way.
+    pub stall: OutputStall,
     /// How many connections each lane has.
     pub loads: Arc<Loads, Global>,
     /// The settings in force, as a configuration's text.
@@ -47,16 +53,17 @@ impl Charge {
         end_admin(rt, self.metrics_address.as_str());
     }
 
-    /// The numbers now, of a collector that has been at work for so many seconds.
-    fn metrics(&self, uptime_seconds: u64) -> Metrics {
+    /// The numbers now, of a collector that has been at work since then.
+    fn metrics<R: Clock>(&self, rt: &R, began: Option<Instant>) -> Metrics {
         let traffic = &self.loads.traffic;
         let (lines, output_bytes) = self.board.written();
         let (late_sampled, late_not_sampled) = self.board.late();
         let (attempts_taken, attempts_refused, attempts_unanswered) = self.board.attempted();
+        let (log_warnings, log_errors) = self.board.logged();
         Metrics {
             report: self.board.report(),
             open_connections: self.loads.sum(),
-            uptime_seconds,
+            uptime_seconds: seconds_since(rt, began),
             spans_waiting: self.board.waiting(),
             received_bytes: traffic.received(),
             sent_bytes: traffic.sent(),
@@ -78,32 +85,51 @@ impl Charge {
             attempts_taken,
             attempts_refused,
             attempts_unanswered,
+            output_stalled_seconds: self.stall.seconds(rt),
+            oldest_waiting_seconds: self.board.longest_wait() / 1_000,
+            log_warnings,
+            log_errors,
+            clock_jumps: self.board.jumped(),
+            closed_idle: traffic.closed_idle(),
         }
+    }
+}
+
+/// Seconds since then, and 0 where the clock doesn't tell.
+fn seconds_since<R: Clock>(rt: &R, began: Option<Instant>) -> u64 {
+    let Some(began) = began else {
+        return 0;
+    };
+    match began.elapsed(rt) {
+        Ok(since) => since.as_secs(),
+        Err(_) => 0,
     }
 }
 
 /// A collector, as one in charge of it sees it.
 #[derive(Drop)]
-pub struct InCharge<'c> {
+pub struct InCharge<'c, R: Clock> {
+    rt: &'c R,
     charge: &'c Charge,
-    uptime_seconds: u64,
+    began: Option<Instant>,
     is_closed: bool,
     is_reopened: bool,
 }
 
-impl<'c> InCharge<'c> {
-    /// A collector that has been at work for so many seconds, and that was asked for nothing.
-    pub fn new(charge: &'c Charge, uptime_seconds: u64) -> Self {
+impl<'c, R: Clock> InCharge<'c, R> {
+    /// A collector that has been at work since then, and that was asked for nothing.
+    pub fn new(rt: &'c R, charge: &'c Charge, began: Option<Instant>) -> Self {
         InCharge {
+            rt,
             charge,
-            uptime_seconds,
+            began,
             is_closed: false,
             is_reopened: false,
         }
     }
 }
 
-impl<'c> Admin for InCharge<'c> {
+impl<'c, R: Clock> Admin for InCharge<'c, R> {
     ghost use Rattle.std.specs.Prelude.{◌≡◌, ⊤, string_bytes};
     ghost use Rattle.metrics_text.specs.Text.{metrics_text};
     ghost use Rattle.metrics_text.specs.declared.metrics.Metrics.{Metrics};
@@ -136,7 +162,7 @@ impl<'c> Admin for InCharge<'c> {
     }
 
     fn metrics(&self, alloc: Global) -> Result<String, AllocError> {
-        let metrics = self.charge.metrics(self.uptime_seconds);
+        let metrics = self.charge.metrics(self.rt, self.began);
         let policies = self.charge.board.decisions(alloc)?;
         let shards = self.charge.board.shards(alloc)?;
         let text = metrics_text(alloc, &metrics, &policies, &shards)?;

@@ -21,7 +21,7 @@ impl<W: Write + Drop> EventWriter<W> {
         EventWriter { writer, form }
     }
 
-    /// Says an event that is now.
+    /// Says an event that is now, and whether there is a line of it.
     pub fn say<R: Clock>(
         &mut self,
         rt: &R,
@@ -29,10 +29,11 @@ impl<W: Write + Drop> EventWriter<W> {
         level: Level,
         event: &str,
         fields: &[LogField<'_>],
-    ) {
+    ) -> bool {
         let moment = WallClock::new(rt).now();
-        if let Ok(Some(line)) = line_of(alloc, self.form, moment, level, event, fields) {
-            let _ = self.writer.write_all(line.as_bytes());
+        match line_of(alloc, self.form, moment, level, event, fields) {
+            Ok(Some(line)) => self.writer.write_all(line.as_bytes()).is_ok(),
+            _ => false,
         }
     }
 }

@@ -21,18 +21,20 @@ use std::{io, thread};
 const PAUSE: u64 = 500;
 
 /// What may begin and be over again: what is said at its beginning, at its end, and of what it tells the number.
-const COMINGS: [(&str, &str, &str); 4] = [
+const COMINGS: [(&str, &str, &str); 6] = [
     ("queue_full", "queue_has_room", "spans"),
     ("memory_refused", "memory_given", "spans"),
     ("traces_evicted", "no_trace_evicted", "spans"),
     ("requests_refused", "requests_taken", "answers_503"),
+    ("idlest_closed", "no_idlest_closed", "connections"),
+    ("files_run_out", "files_suffice", "times"),
 ];
 
 /// What was known at the last look.
 #[derive(Clone, Copy)]
 struct Known {
-    numbers: [u64; 4],
-    spells: [Spell; 4],
+    numbers: [u64; 6],
+    spells: [Spell; 6],
     taken: u64,
     unanswered: u64,
     away_since: Option<u64>,
@@ -46,8 +48,8 @@ impl Known {
     /// Nothing has happened.
     fn new() -> Self {
         Known {
-            numbers: [0; 4],
-            spells: [Spell::new(); 4],
+            numbers: [0; 6],
+            spells: [Spell::new(); 6],
             taken: 0,
             unanswered: 0,
             away_since: None,
@@ -84,7 +86,8 @@ fn watch<W: Write + Drop, R: Wait + Clock>(
         let now = steady.now();
         let wall = WallClock::new(rt).now();
         if let Some(apart) = jump_of(wall, now) {
-            say_jump(rt, alloc, &mut events, apart, wall);
+            charge.board.jumps();
+            say_jump(rt, alloc, &mut events, charge, apart, wall);
             steady = SteadyClock::new(rt);
         }
         look_at_numbers(rt, alloc, &mut events, charge, &mut known, now);
@@ -94,16 +97,40 @@ fn watch<W: Write + Drop, R: Wait + Clock>(
     }
 }
 
+/// Says an event, and counts the line where there is one.
+fn say<W: Write + Drop, R: Clock>(
+    rt: &R,
+    alloc: Global,
+    events: &mut EventWriter<W>,
+    charge: &Charge,
+    level: Level,
+    event: &str,
+    fields: &[LogField<'_>],
+) {
+    if events.say(rt, alloc, level, event, fields) {
+        charge.board.logs(level);
+    }
+}
+
 /// Says that the wall clock was set.
 fn say_jump<W: Write + Drop, R: Clock>(
     rt: &R,
     alloc: Global,
     events: &mut EventWriter<W>,
+    charge: &Charge,
     apart: u64,
     wall: u64,
 ) {
     let fields = [number("by_ms", apart), number("clock_ms", wall)];
-    events.say(rt, alloc, Level::Warning, "clock_jumped", &fields);
+    say(
+        rt,
+        alloc,
+        events,
+        charge,
+        Level::Warning,
+        "clock_jumped",
+        &fields,
+    );
 }
 
 fn number(name: &'static str, number: u64) -> LogField<'static> {
@@ -113,15 +140,18 @@ fn number(name: &'static str, number: u64) -> LogField<'static> {
     }
 }
 
-/// The numbers that are looked at: spans that found a queue full, spans without memory, spans of evicted traces, and
-/// answers 503.
-fn numbers_of(charge: &Charge) -> [u64; 4] {
+/// The numbers that are looked at: spans that found a queue full, spans without memory, spans of evicted traces, answers
+/// 503, connections that were closed as the idlest, and how often files had run out.
+fn numbers_of(charge: &Charge) -> [u64; 6] {
     let report = charge.board.report();
+    let traffic = &charge.loads.traffic;
     [
         report.number(Count::Dropped(Reason::QueueFull)),
         report.number(Count::Dropped(Reason::NoMemory)),
         report.number(Count::Dropped(Reason::Evicted)),
-        charge.loads.traffic.answered(503),
+        traffic.answered(503),
+        traffic.closed_idle(),
+        traffic.lacked_file(),
     ]
 }
 
@@ -135,7 +165,7 @@ fn look_at_numbers<W: Write + Drop, R: Clock>(
     now: u64,
 ) {
     let numbers = numbers_of(charge);
-    for at in 0..4 {
+    for at in 0..6 {
         let grows = known.numbers[at] < numbers[at];
         known.numbers[at] = numbers[at];
         let (spell, turn) = spell_after(known.spells[at], grows, now);
@@ -143,8 +173,16 @@ fn look_at_numbers<W: Write + Drop, R: Clock>(
         let (begins, ends, name) = COMINGS[at];
         let fields = [number(name, numbers[at])];
         match turn {
-            Some(SpellTurn::Begins) => events.say(rt, alloc, Level::Warning, begins, &fields),
-            Some(SpellTurn::Ends) => events.say(rt, alloc, Level::Info, ends, &fields),
+            Some(SpellTurn::Begins) => say(
+                rt,
+                alloc,
+                events,
+                charge,
+                Level::Warning,
+                begins,
+                &fields,
+            ),
+            Some(SpellTurn::Ends) => say(rt, alloc, events, charge, Level::Info, ends, &fields),
             None => {}
         }
     }
@@ -169,11 +207,27 @@ fn look_at_backend<W: Write + Drop, R: Clock>(
     match turn {
         Some(AwayTurn::Away) => {
             let fields = [number("unanswered", unanswered)];
-            events.say(rt, alloc, Level::Warning, "backend_away", &fields);
+            say(
+                rt,
+                alloc,
+                events,
+                charge,
+                Level::Warning,
+                "backend_away",
+                &fields,
+            );
         }
         Some(AwayTurn::Back(passed)) => {
             let fields = [number("away_ms", passed)];
-            events.say(rt, alloc, Level::Info, "backend_back", &fields);
+            say(
+                rt,
+                alloc,
+                events,
+                charge,
+                Level::Info,
+                "backend_back",
+                &fields,
+            );
         }
         None => {}
     }
@@ -198,7 +252,15 @@ fn look_at_output<W: Write + Drop, R: Clock>(
             output_of(charge),
             number("failing_ms", now.saturating_sub(seen)),
         ];
-        events.say(rt, alloc, Level::Info, "output_back", &fields);
+        say(
+            rt,
+            alloc,
+            events,
+            charge,
+            Level::Info,
+            "output_back",
+            &fields,
+        );
     }
     if let Some((_, code)) = failing {
         let cause = cause_of(alloc, code);
@@ -209,7 +271,15 @@ fn look_at_output<W: Write + Drop, R: Clock>(
                 value: FieldValue::Text(cause.as_str()),
             },
         ];
-        events.say(rt, alloc, Level::Error, "output_failing", &fields);
+        say(
+            rt,
+            alloc,
+            events,
+            charge,
+            Level::Error,
+            "output_failing",
+            &fields,
+        );
     }
     known.failing = since.map(|since| (since, now));
 }
@@ -244,7 +314,15 @@ fn look_at_end<W: Write + Drop, R: Clock>(
 ) {
     if charge.board.is_down() && !known.is_down {
         known.is_down = true;
-        events.say(rt, alloc, Level::Error, "output_failed", &[]);
+        say(
+            rt,
+            alloc,
+            events,
+            charge,
+            Level::Error,
+            "output_failed",
+            &[],
+        );
     }
     if known.is_closing {
         return;
@@ -268,5 +346,5 @@ fn say_closing<W: Write + Drop, R: Clock>(
         value: FieldValue::Text(closer.name()),
     };
     let fields = [by, number("spans_waiting", charge.board.waiting())];
-    events.say(rt, alloc, Level::Info, "closing", &fields);
+    say(rt, alloc, events, charge, Level::Info, "closing", &fields);
 }

@@ -2,29 +2,43 @@
 ghost use Rattle.std.specs.Prelude.{◌≡◌};
 
 use crate::board::Board;
+use crate::output_stall::OutputStall;
 use http_lane::HasStopMark;
 use span_sink::{Sink, SinkFault};
+use std::time::Clock;
 
-/// A sink over another one. Where a write fails it sets a mark to stop, if it is told to, and what was taken is told to
-/// a board; what it takes and what it answers are those of the other.
+/// A sink over another one. Where a write fails it sets a mark to stop, if it is told to, what was taken is told to a
+/// board, and while a write is under way others can tell for how long; what it takes and what it answers are those of
+/// the other.
 #[derive(Drop)]
-pub struct StoppingSink<'s, S, P> {
+pub struct StoppingSink<'s, S, P, R: Clock> {
+    rt: &'s R,
     sink: S,
     stop: &'s P,
     stops: bool,
     board: &'s Board,
+    stall: &'s OutputStall,
 }
 
-impl<'s, S: Sink, P: HasStopMark> StoppingSink<'s, S, P> {
+impl<'s, S: Sink, P: HasStopMark, R: Clock> StoppingSink<'s, S, P, R> {
     /// A sink over this one; `stops`: a write that fails sets the mark.
-    pub fn new(sink: S, stop: &'s P, stops: bool, board: &'s Board) -> Self
+    pub fn new(
+        rt: &'s R,
+        sink: S,
+        stop: &'s P,
+        stops: bool,
+        board: &'s Board,
+        stall: &'s OutputStall,
+    ) -> Self
         ensures { result.sink ≡ sink }
     {
         StoppingSink {
+            rt,
             sink,
             stop,
             stops,
             board,
+            stall,
         }
     }
 
@@ -33,22 +47,26 @@ impl<'s, S: Sink, P: HasStopMark> StoppingSink<'s, S, P> {
         ensures { result ≡ self.entry.sink }
     {
         let StoppingSink {
+            rt: _,
             sink,
             stop: _,
             stops: _,
             board: _,
+            stall: _,
         } = self;
         sink
     }
 }
 
-impl<'s, S: Sink, P: HasStopMark> Sink for StoppingSink<'s, S, P> {
+impl<'s, S: Sink, P: HasStopMark, R: Clock> Sink for StoppingSink<'s, S, P, R> {
     ghost taken = { λ s. S.taken s.sink };
 
     ghost failures = { λ s. S.failures s.sink };
 
     fn write(&mut self, bytes: &[u8]) -> Result<usize, SinkFault> {
+        self.stall.begins(self.rt);
         let answer = self.sink.write(bytes);
+        self.stall.ends();
         match answer {
             Ok(n) => self.board.wrote(bytes.get(..n).unwrap_or(b"")),
             Err(_) if self.stops => self.stop.set(),

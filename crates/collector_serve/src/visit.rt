@@ -53,14 +53,15 @@ impl Visit {
         self.peer.shut(Shutdown::Both);
     }
 
-    /// Answers it, and ends it. One that can't be answered is ended; so is each where the clock can't be read.
+    /// Answers it by a collector that has been at work since then, and ends it. One that can't be answered is ended; so is
+    /// each where the clock can't be read.
     pub fn answer<R: Clock>(
         &self,
         rt: &R,
         alloc: Global,
         access: Access,
         charge: &Charge,
-        uptime: u64,
+        since: Option<Instant>,
     ) {
         if let Ok(began) = Instant::now(rt) {
             let mut reader = VisitEnd {
@@ -73,7 +74,7 @@ impl Visit {
                 peer: &self.peer,
                 began,
             };
-            let mut in_charge = InCharge::new(charge, uptime);
+            let mut in_charge = InCharge::new(rt, charge, since);
             let _ = serve(alloc, access, &mut reader, &mut writer, &mut in_charge);
             self.peer.shut(Shutdown::Write);
             linger(&mut reader);

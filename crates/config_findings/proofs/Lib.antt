@@ -3,3 +3,4 @@ mod Slashes
 mod Told
 mod FaultRows
 mod AddressRows
+mod TextRows

@@ -1,8 +1,11 @@
 //! What is said of a fault of a configuration: its place, and what would be right. A place is written as the keys that
-//! lead to it, with the number of an item from 0. No contract says more than that a text is made; tests/faulty.py
-//! compares them.
+//! lead to it, with the number of an item from 0. Contracts say what is told of a key that there isn't, and where a text
+//! isn't TOML; of other texts no more than that they are made, and tests/faulty.py compares them.
+ghost use Rattle.std.specs.Prelude.{◌≡◌, IfOk, string_bytes};
+ghost use Rattle.config_findings.specs.Texts.{no_key_text, no_toml_text, place_from};
 
-use config_faults::{ConfigFault, ItemKind, PolicyType, ValueKind};
+use config_faults::{ConfigFault, ItemKind, PolicyType, TableKind, ValueKind};
+use near_keys::{Hint, hint_of};
 use policy_tree::PolicyFault;
 use std::alloc::{AllocError, Global};
 use toml::Value;
@@ -21,15 +24,59 @@ pub fn item_place(alloc: Global, place: &str, index: u64) -> Result<String, Allo
     format!(in alloc; "{place}[{index}]")
 }
 
-/// The text that a table has no such key. A key that isn't bare is written between quotation marks.
-pub fn unknown_text(alloc: Global, place: &str, key: &str) -> Result<String, AllocError> {
+/// The text that a table of this kind has no such key, and what is known of it. A key that isn't bare is written between
+/// quotation marks.
+pub fn unknown_text(
+    alloc: Global,
+    place: &str,
+    kind: TableKind,
+    key: &str,
+) -> Result<String, AllocError> {
     let here = if is_bare(key) {
         key_place(alloc, place, key)?
     } else {
         let quoted = format!(in alloc; "{key:?}")?;
         key_place(alloc, place, quoted.as_str())?
     };
-    format!(in alloc; "{here}: no such key")
+    no_key_text(alloc, here.as_str(), kind, key)
+}
+
+/// The text that a table of this kind has no key, which stands here, and what is known of it.
+fn no_key_text(alloc: Global, here: &str, kind: TableKind, key: &str) -> Result<String, AllocError>
+    ensures { IfOk result (λ said. string_bytes said ≡ no_key_text here.now kind key.now) }
+{
+    match hint_of(kind, key) {
+        Hint::Nothing => format!(in alloc; "{here}: no such key"),
+        Hint::Key(name) => format!(in alloc; "{here}: no such key; `{name}` is"),
+        Hint::Words(words) => format!(in alloc; "{here}: no such key; {words}"),
+    }
+}
+
+/// The text that this isn't TOML, with the line and the column, both from 1, behind these bytes of it.
+pub fn no_toml_text(alloc: Global, before: &[u8]) -> Result<String, AllocError>
+    ensures { IfOk result (λ said. string_bytes said ≡ no_toml_text before.now) }
+{
+    let (line, column) = place_behind(before);
+    format!(in alloc; "not TOML; line {line}, column {column}")
+}
+
+/// The line and the column, both from 1, behind some bytes. A column counts characters.
+fn place_behind(before: &[u8]) -> (usize, usize)
+    ensures { result ≡ place_from 1 1 before.now }
+{
+    let mut left = before;
+    let mut line = 1usize;
+    let mut column = 1usize;
+    while let [first, rest @ ..] = left {
+        if *first == b'\n' {
+            line += 1;
+            column = 1;
+        } else if *first < 128 || *first >= 192 {
+            column += 1;
+        }
+        left = rest;
+    }
+    (line, column)
 }
 
 /// The text that a key stands beside another name of the same setting.

@@ -30,7 +30,7 @@ pub fn add_unknown(
         if !is_key(kind, key.as_str()) {
             findings.add(
                 ConfigFault::UnknownKey,
-                unknown_text(alloc, place, key.as_str())?,
+                unknown_text(alloc, place, kind, key.as_str())?,
             )?;
         }
     }

@@ -10,7 +10,7 @@ ghost use Rattle.tsc_config.specs.Values.{config_of};
 
 use crate::address_findings::{AddressFinding, add_addresses};
 use crate::expressions::add_expressions;
-use crate::finding_texts::{policy_fault_text, twice_text};
+use crate::finding_texts::{no_toml_text, policy_fault_text, twice_text};
 use crate::findings::{ConfigFinding, Findings};
 use crate::policy_findings::add_policies;
 use crate::settings_findings::{add_rows, add_settings, add_unknown};
@@ -21,6 +21,7 @@ use config_faults::{
 use policy_tree::Policies;
 use std::alloc::{AllocError, Global};
 use toml::Table;
+use toml::de::Error;
 use tsc_config::{number_at, policies_at};
 
 /// What is told of the text of a configuration.
@@ -88,7 +89,19 @@ fn add_faults(
             add_table(alloc, &table, findings, big)
         }
         Err(error) if error.is_memory() => Err(AllocError),
-        Err(_) => findings.add(ConfigFault::NotToml, String::from_str(alloc, "not TOML")?),
+        Err(error) => {
+            let said = no_toml_text(alloc, before_fault(text, &error))?;
+            findings.add(ConfigFault::NotToml, said)
+        }
+    }
+}
+
+/// What stands in front of the place where a text was found to be no TOML.
+fn before_fault<'t>(text: &'t str, error: &Error) -> &'t [u8] {
+    let bytes = text.as_bytes();
+    match error.span() {
+        Some(span) if span.start <= bytes.len() => &bytes[..span.start],
+        _ => bytes,
     }
 }
 

@@ -31,4 +31,5 @@ pub use lent::{Clock, HasStopMark, Lent};
 pub use reads::{PIECE_LIMIT, Reads, Source};
 pub use requests::Requests;
 pub use serving::serve;
+pub use texts::stopping_text;
 pub use turns::{Arrived, Exchange, IDLE_LIMIT, REQUEST_LIMIT};

@@ -213,6 +213,7 @@ impl<'l, P: HasStopMark> TurnDriver<'l, P> {
         ensures { (next : Next) → result ≡ Follows.Do next → FitsNext next (length piece.old) }
     {
         self.since = self.now.saturating_add(NAP);
+        self.links.traffic().lacks_file();
         self.make_room(piece, self.now.saturating_add(IDLE_LIMIT - GRACE))
     }
 
@@ -241,6 +242,7 @@ impl<'l, P: HasStopMark> TurnDriver<'l, P> {
                 Got::Nothing => {}
             }
         }
+        self.links.traffic().closes_idle();
         Follows::Do(Next::Dismiss { key })
     }
 

@@ -4,8 +4,8 @@ use std::sync::atomic::{AtomicU64, Ordering};
 /// How an answer begins, in front of its status (RFC 9112, section 4). No body has this text.
 const START: &[u8] = b"HTTP/1.1 ";
 
-/// Bytes that came and went, and how many requests were answered with each status. All lanes add to it, and numbers
-/// only grow. No contract rests on it.
+/// Bytes that came and went, how many requests were answered with each status, and what became of connections. All
+/// lanes add to it, and numbers only grow. No contract rests on it.
 #[derive(Drop)]
 pub struct Traffic {
     received: AtomicU64,
@@ -20,6 +20,8 @@ pub struct Traffic {
     head_too_large: AtomicU64,
     unavailable: AtomicU64,
     others: AtomicU64,
+    closed_idle: AtomicU64,
+    lacked_file: AtomicU64,
 }
 
 impl Traffic {
@@ -38,6 +40,8 @@ impl Traffic {
             head_too_large: AtomicU64::new(0),
             unavailable: AtomicU64::new(0),
             others: AtomicU64::new(0),
+            closed_idle: AtomicU64::new(0),
+            lacked_file: AtomicU64::new(0),
         }
     }
 
@@ -54,6 +58,26 @@ impl Traffic {
                 self.cell(status_of(rest)).fetch_add(1, Ordering::Relaxed);
             }
         }
+    }
+
+    /// The connection that was idle longest is closed for another one.
+    pub fn closes_idle(&self) {
+        self.closed_idle.fetch_add(1, Ordering::Relaxed);
+    }
+
+    /// A connection could not be taken, as too many files are open.
+    pub fn lacks_file(&self) {
+        self.lacked_file.fetch_add(1, Ordering::Relaxed);
+    }
+
+    /// How many connections were closed for another one, as they were idle longest.
+    pub fn closed_idle(&self) -> u64 {
+        self.closed_idle.load(Ordering::Relaxed)
+    }
+
+    /// How often a connection could not be taken, as too many files were open.
+    pub fn lacked_file(&self) -> u64 {
+        self.lacked_file.load(Ordering::Relaxed)
     }
 
     /// How many bytes came.

@@ -6,6 +6,8 @@ use Rattle.std.proofs.lemmas.List.{append-nil}
 use Rattle.std.proofs.lemmas.List.{map-append}
 use Rattle.std.proofs.lemmas.List.Elements.{All-push}
 use Rattle.lane_queue.specs.Moments.{HasHistory, WasEmpty}
+use Rattle.lane_queue.specs.declared.calls.Call.{Call}
+use Rattle.lane_queue.specs.declared.calls.Call.TheVariants.{Popped}
 use Rattle.lane_queue.specs.Ends.{EndState, ReceiverState, IsNew, queues, AreTied, WasEmptyAt, HasHistoryAt, TakesAt, PopsAt}
 
 -- what holds from a on and before b, and of b, holds before b + 1
@@ -90,33 +92,35 @@ module _ {T : Type 0} where
   same_queues (x ∷ xs) zero end new at same = (let is : x ≡ end = cc in ap (λ q. q ∷ queues xs) (same ∙ ap (λ (e : EndState T). e.queue) (sym is)))
   same_queues (x ∷ xs) (suc place) end new at same = ap (λ l. x.queue ∷ l) (same_queues xs place end new at same)
 
-  abbrev state : List (EndState T) → ℕ → ReceiverState T
-  state ends next = record { ends = ends; next = next }
+  abbrev state : List (EndState T) → ℕ → List Call → ReceiverState T
+  state ends next calls = record { ends = ends; next = next; calls = calls }
 
   -- found among the places from the next one on
-  pub pops_from_next : (n next place : ℕ) (x : T) (old new : List (EndState T)) (self : ReceiverState T) → state old next ≡ self → next ≤ place → TakesAt n place x old new
-      → ((k : ℕ) → next ≤ k → k < place → WasEmptyAt n old k) → PopsAt n place x self (state new (place + 1))
-  pops_from_next n next place x old new self is at takes before = subst (λ s. PopsAt n place x s (state new (place + 1))) is (record {
+  pub pops_from_next : (n next place : ℕ) (x : T) (old new : List (EndState T)) (calls called : List Call) (self : ReceiverState T) → state old next calls ≡ self → next ≤ place → TakesAt n place x old new
+      → ((k : ℕ) → next ≤ k → k < place → WasEmptyAt n old k) → called ≡ calls ++ Popped place ∷ [] → PopsAt n place x self (state new (place + 1) called)
+  pops_from_next n next place x old new calls called self is at takes before more = subst (λ s. PopsAt n place x s (state new (place + 1) called)) is (record {
     takes = takes;
     next = refl;
+    called = more;
     before = λ k within asked. ⊎_elim (λ (a : (next ≤ k) × ((k < place) ⊎ (place < next))). ⊎_elim (λ (l : k < place). before k a.0 l) (λ (l : place < next). absurd (omega arith)) a.1) (λ (a : (k < place) × (place < next)). absurd (omega (arith, a.1))) asked;
   })
 
   -- found among the places before the next one
-  pub pops_from_first : (n next count place : ℕ) (x : T) (old between new : List (EndState T)) (self : ReceiverState T) → state old next ≡ self → between ≡ old → place < next → length old ≤ count → TakesAt n place x between new
+  pub pops_from_first : (n next count place : ℕ) (x : T) (old between new : List (EndState T)) (calls called : List Call) (self : ReceiverState T) → state old next calls ≡ self → between ≡ old → place < next → length old ≤ count → TakesAt n place x between new
       → ((k : ℕ) → next ≤ k → k < count → WasEmptyAt n old k) → ((k : ℕ) → 0 ≤ k → k < place → WasEmptyAt n between k)
-      → PopsAt n place x self (state new (place + 1))
-  pops_from_first n next count place x old between new self is same at enough takes high low = subst (λ s. PopsAt n place x s (state new (place + 1))) is (record {
+      → called ≡ calls ++ Popped place ∷ [] → PopsAt n place x self (state new (place + 1) called)
+  pops_from_first n next count place x old between new calls called self is same at enough takes high low more = subst (λ s. PopsAt n place x s (state new (place + 1) called)) is (record {
     takes = subst (λ l. TakesAt n place x l new) same takes;
     next = refl;
+    called = more;
     before = λ k within asked. ⊎_elim (λ (a : (next ≤ k) × ((k < place) ⊎ (place < next))). high k a.0 (omega arith)) (λ (a : (k < place) × (place < next)). subst (λ l. WasEmptyAt n l k) same (low k (omega arith) a.0)) asked;
   })
 
   -- found nowhere
-  pub pops_none : (n next count : ℕ) (old between new : List (EndState T)) (self : ReceiverState T) → state old next ≡ self → between ≡ old → new ≡ between → length old ≤ count
+  pub pops_none : (n next count : ℕ) (old between new : List (EndState T)) (calls : List Call) (self : ReceiverState T) → state old next calls ≡ self → between ≡ old → new ≡ between → length old ≤ count
       → ((k : ℕ) → next ≤ k → k < count → WasEmptyAt n old k) → ((k : ℕ) → 0 ≤ k → k < next → WasEmptyAt n between k)
-      → (state new next ≡ self) × ((k : ℕ) → k < length self.ends → WasEmptyAt n self.ends k)
-  pops_none n next count old between new self is same again enough high low = (
-    ap (λ l. state l next) (again ∙ same) ∙ is,
+      → (state new next calls ≡ self) × ((k : ℕ) → k < length self.ends → WasEmptyAt n self.ends k)
+  pops_none n next count old between new calls self is same again enough high low = (
+    ap (λ l. state l next calls) (again ∙ same) ∙ is,
     subst (λ (r : ReceiverState T). (k : ℕ) → k < length r.ends → WasEmptyAt n r.ends k) is (asked_all n old next count enough high (λ k a b. subst (λ l. WasEmptyAt n l k) same (low k a b))),
   )

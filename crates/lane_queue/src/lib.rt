@@ -21,6 +21,7 @@
 
 mod bell;
 mod brake;
+mod calls;
 mod ends;
 mod flow;
 mod gate;
@@ -35,6 +36,7 @@ mod rule;
 mod sender_port;
 
 pub use brake::Brake;
+pub use calls::{Call, CallLog};
 pub use ends::Sender;
 pub use gate::{Gate, GatePlace, OpenGate, ShardLoad};
 pub use law::{none_is_overtaken, popped_then_held_is_pushed, pops_take_turns};

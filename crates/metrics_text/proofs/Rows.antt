@@ -6,7 +6,7 @@ use Rattle.std.specs.Fmt.{digits}
 use Rattle.metrics_text.specs.Text.{metrics_text}
 
 -- nothing was counted
-all_zero : metrics_text (record { report = replicate 9 0; open_connections = 0; uptime_seconds = 0; spans_waiting = 0; received_bytes = 0; sent_bytes = 0; lines = 0; output_bytes = 0; memory_bytes = 0; answered_200 = 0; answered_400 = 0; answered_404 = 0; answered_405 = 0; answered_408 = 0; answered_413 = 0; answered_415 = 0; answered_431 = 0; answered_503 = 0; late_sampled = 0; late_not_sampled = 0; rejected = 0; attempts_taken = 0; attempts_refused = 0; attempts_unanswered = 0 }) [] []
+all_zero : metrics_text (record { report = replicate 9 0; open_connections = 0; uptime_seconds = 0; spans_waiting = 0; received_bytes = 0; sent_bytes = 0; lines = 0; output_bytes = 0; memory_bytes = 0; answered_200 = 0; answered_400 = 0; answered_404 = 0; answered_405 = 0; answered_408 = 0; answered_413 = 0; answered_415 = 0; answered_431 = 0; answered_503 = 0; late_sampled = 0; late_not_sampled = 0; rejected = 0; attempts_taken = 0; attempts_refused = 0; attempts_unanswered = 0; output_stalled_seconds = 0; oldest_waiting_seconds = 0; log_warnings = 0; log_errors = 0; clock_jumps = 0; closed_idle = 0 }) [] []
     ≡ codes "# HELP tsc_spans_received_total Spans of requests that were read.\n"
     ++ codes "# TYPE tsc_spans_received_total counter\n"
     ++ codes "tsc_spans_received_total 0\n"
@@ -72,6 +72,22 @@ all_zero : metrics_text (record { report = replicate 9 0; open_connections = 0; 
     ++ codes "tsc_export_attempts_total{result=\"taken\"} 0\n"
     ++ codes "tsc_export_attempts_total{result=\"refused\"} 0\n"
     ++ codes "tsc_export_attempts_total{result=\"unanswered\"} 0\n"
+    ++ codes "# HELP tsc_output_stalled_seconds Seconds since the write or delivery began that is under way, 0 where none is.\n"
+    ++ codes "# TYPE tsc_output_stalled_seconds gauge\n"
+    ++ codes "tsc_output_stalled_seconds 0\n"
+    ++ codes "# HELP tsc_oldest_waiting_seconds Seconds that the oldest undecided trace has waited, as the shards told last, 0 where none waits.\n"
+    ++ codes "# TYPE tsc_oldest_waiting_seconds gauge\n"
+    ++ codes "tsc_oldest_waiting_seconds 0\n"
+    ++ codes "# HELP tsc_log_lines_total Lines of the log that tell of trouble, by their level.\n"
+    ++ codes "# TYPE tsc_log_lines_total counter\n"
+    ++ codes "tsc_log_lines_total{level=\"warn\"} 0\n"
+    ++ codes "tsc_log_lines_total{level=\"error\"} 0\n"
+    ++ codes "# HELP tsc_clock_jumps_total Jumps of the wall clock that were seen.\n"
+    ++ codes "# TYPE tsc_clock_jumps_total counter\n"
+    ++ codes "tsc_clock_jumps_total 0\n"
+    ++ codes "# HELP tsc_connections_closed_idle_total Connections that were closed for others, as those that had waited the longest.\n"
+    ++ codes "# TYPE tsc_connections_closed_idle_total counter\n"
+    ++ codes "tsc_connections_closed_idle_total 0\n"
     ++ codes "# HELP tsc_traces_decided_total Traces that were decided, by the policy that decided.\n"
     ++ codes "# TYPE tsc_traces_decided_total counter\n"
     ++ codes "# HELP tsc_shard_queue_items Items that wait in the queues of a shard, as it told last.\n"
@@ -84,7 +100,7 @@ unfolding digits
 all_zero = refl
 
 -- no two numbers are the same, and the greatest is among them
-all_distinct : metrics_text (record { report = 18446744073709551615 ∷ 21 ∷ 302 ∷ 43 ∷ 5004 ∷ 65 ∷ 706 ∷ 87 ∷ 908 ∷ []; open_connections = 19; uptime_seconds = 86400; spans_waiting = 18; received_bytes = 33; sent_bytes = 44; lines = 5; output_bytes = 16; memory_bytes = 27; answered_200 = 108; answered_400 = 29; answered_404 = 30; answered_405 = 111; answered_408 = 12; answered_413 = 73; answered_415 = 14; answered_431 = 35; answered_503 = 36; late_sampled = 39; late_not_sampled = 40; rejected = 171; attempts_taken = 1272; attempts_refused = 1373; attempts_unanswered = 1474 })
+all_distinct : metrics_text (record { report = 18446744073709551615 ∷ 21 ∷ 302 ∷ 43 ∷ 5004 ∷ 65 ∷ 706 ∷ 87 ∷ 908 ∷ []; open_connections = 19; uptime_seconds = 86400; spans_waiting = 18; received_bytes = 33; sent_bytes = 44; lines = 5; output_bytes = 16; memory_bytes = 27; answered_200 = 108; answered_400 = 29; answered_404 = 30; answered_405 = 111; answered_408 = 12; answered_413 = 73; answered_415 = 14; answered_431 = 35; answered_503 = 36; late_sampled = 39; late_not_sampled = 40; rejected = 171; attempts_taken = 1272; attempts_refused = 1373; attempts_unanswered = 1474; output_stalled_seconds = 1575; oldest_waiting_seconds = 1616; log_warnings = 1676; log_errors = 1777; clock_jumps = 1878; closed_idle = 1979 })
     (record { name = []; sampled = 137; not_sampled = 238 } ∷ record { name = codes "a\\b\"c\nd"; sampled = 441; not_sampled = 542 } ∷ [])
     (record { queued = 201; traces = 202; spans = 203 } ∷ record { queued = 211; traces = 212; spans = 213 } ∷ [])
     ≡ codes "# HELP tsc_spans_received_total Spans of requests that were read.\n"
@@ -152,6 +168,22 @@ all_distinct : metrics_text (record { report = 18446744073709551615 ∷ 21 ∷ 3
     ++ codes "tsc_export_attempts_total{result=\"taken\"} 1272\n"
     ++ codes "tsc_export_attempts_total{result=\"refused\"} 1373\n"
     ++ codes "tsc_export_attempts_total{result=\"unanswered\"} 1474\n"
+    ++ codes "# HELP tsc_output_stalled_seconds Seconds since the write or delivery began that is under way, 0 where none is.\n"
+    ++ codes "# TYPE tsc_output_stalled_seconds gauge\n"
+    ++ codes "tsc_output_stalled_seconds 1575\n"
+    ++ codes "# HELP tsc_oldest_waiting_seconds Seconds that the oldest undecided trace has waited, as the shards told last, 0 where none waits.\n"
+    ++ codes "# TYPE tsc_oldest_waiting_seconds gauge\n"
+    ++ codes "tsc_oldest_waiting_seconds 1616\n"
+    ++ codes "# HELP tsc_log_lines_total Lines of the log that tell of trouble, by their level.\n"
+    ++ codes "# TYPE tsc_log_lines_total counter\n"
+    ++ codes "tsc_log_lines_total{level=\"warn\"} 1676\n"
+    ++ codes "tsc_log_lines_total{level=\"error\"} 1777\n"
+    ++ codes "# HELP tsc_clock_jumps_total Jumps of the wall clock that were seen.\n"
+    ++ codes "# TYPE tsc_clock_jumps_total counter\n"
+    ++ codes "tsc_clock_jumps_total 1878\n"
+    ++ codes "# HELP tsc_connections_closed_idle_total Connections that were closed for others, as those that had waited the longest.\n"
+    ++ codes "# TYPE tsc_connections_closed_idle_total counter\n"
+    ++ codes "tsc_connections_closed_idle_total 1979\n"
     ++ codes "# HELP tsc_traces_decided_total Traces that were decided, by the policy that decided.\n"
     ++ codes "# TYPE tsc_traces_decided_total counter\n"
     ++ codes "tsc_traces_decided_total{policy=\"\",decision=\"sampled\"} 137\n"

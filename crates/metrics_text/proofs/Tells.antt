@@ -14,7 +14,7 @@ use Rattle.metrics_text.specs.declared.kind.FamilyKind.{FamilyKind}
 use Rattle.metrics_text.specs.declared.kind.FamilyKind.TheVariants.{Counter, Gauge}
 use Rattle.metrics_text.specs.declared.metrics.Metrics.{Metrics}
 use Rattle.metrics_text.specs.declared.figure.Figure.{Figure}
-use Rattle.metrics_text.specs.declared.figure.Figure.TheVariants.{SpansWaiting, ReceivedBytes, SentBytes, Lines, OutputBytes, Memory, Answered200, Answered400, Answered404, Answered405, Answered408, Answered413, Answered415, Answered431, Answered503, LateSampled, LateNotSampled, Rejected, AttemptsTaken, AttemptsRefused, AttemptsUnanswered}
+use Rattle.metrics_text.specs.declared.figure.Figure.TheVariants.{SpansWaiting, ReceivedBytes, SentBytes, Lines, OutputBytes, Memory, Answered200, Answered400, Answered404, Answered405, Answered408, Answered413, Answered415, Answered431, Answered503, LateSampled, LateNotSampled, Rejected, AttemptsTaken, AttemptsRefused, AttemptsUnanswered, OutputStalled, OldestWaiting, LogWarnings, LogErrors, ClockJumps, ClosedIdle}
 use Rattle.metrics_text.specs.Figures.{all_figures, figure_row, figure_text, figure_value, figures_text, head_of}
 use Rattle.metrics_text.specs.declared.metrics.ShardNumbers.{ShardNumbers}
 use Rattle.metrics_text.specs.declared.figure.ShardFigure.{ShardFigure}
@@ -159,6 +159,12 @@ same_values a b s Rejected = s.1.1.1.1.1.1.1.1.1.1.1.1.1.1.1.1.1.0
 same_values a b s AttemptsTaken = s.1.1.1.1.1.1.1.1.1.1.1.1.1.1.1.1.1.1.0
 same_values a b s AttemptsRefused = s.1.1.1.1.1.1.1.1.1.1.1.1.1.1.1.1.1.1.1.0
 same_values a b s AttemptsUnanswered = s.1.1.1.1.1.1.1.1.1.1.1.1.1.1.1.1.1.1.1.1.0
+same_values a b s OutputStalled = s.1.1.1.1.1.1.1.1.1.1.1.1.1.1.1.1.1.1.1.1.1.0
+same_values a b s OldestWaiting = s.1.1.1.1.1.1.1.1.1.1.1.1.1.1.1.1.1.1.1.1.1.1.0
+same_values a b s LogWarnings = s.1.1.1.1.1.1.1.1.1.1.1.1.1.1.1.1.1.1.1.1.1.1.1.0
+same_values a b s LogErrors = s.1.1.1.1.1.1.1.1.1.1.1.1.1.1.1.1.1.1.1.1.1.1.1.1.0
+same_values a b s ClockJumps = s.1.1.1.1.1.1.1.1.1.1.1.1.1.1.1.1.1.1.1.1.1.1.1.1.1.0
+same_values a b s ClosedIdle = s.1.1.1.1.1.1.1.1.1.1.1.1.1.1.1.1.1.1.1.1.1.1.1.1.1.1.0
 
 -- ---- shards
 

@@ -5,7 +5,7 @@ use Rattle.metrics_text.specs.declared.metrics.Metrics.{Metrics}
 use Rattle.metrics_text.specs.declared.kind.FamilyKind.{FamilyKind}
 use Rattle.metrics_text.specs.declared.kind.FamilyKind.TheVariants.{Counter, Gauge}
 use Rattle.metrics_text.specs.declared.figure.Figure.{Figure}
-use Rattle.metrics_text.specs.declared.figure.Figure.TheVariants.{SpansWaiting, ReceivedBytes, SentBytes, Lines, OutputBytes, Memory, Answered200, Answered400, Answered404, Answered405, Answered408, Answered413, Answered415, Answered431, Answered503, LateSampled, LateNotSampled, Rejected, AttemptsTaken, AttemptsRefused, AttemptsUnanswered}
+use Rattle.metrics_text.specs.declared.figure.Figure.TheVariants.{SpansWaiting, ReceivedBytes, SentBytes, Lines, OutputBytes, Memory, Answered200, Answered400, Answered404, Answered405, Answered408, Answered413, Answered415, Answered431, Answered503, LateSampled, LateNotSampled, Rejected, AttemptsTaken, AttemptsRefused, AttemptsUnanswered, OutputStalled, OldestWaiting, LogWarnings, LogErrors, ClockJumps, ClosedIdle}
 use Rattle.metrics_text.specs.Families.{word_of, head_lines, sample, sample_line}
 
 -- what is told of a number: its name, what its family's head says, where it is the first of it and else nothing, the
@@ -32,6 +32,10 @@ by_decision name help decision = record { name = name; help = help; kind = Count
 abbrev attempted : (help how : List ℕ) → FigureRow
 attempted help how = record { name = codes "tsc_export_attempts_total"; help = help; kind = Counter; labels = codes "{result=\"" ++ (how ++ codes "\"}") }
 
+-- a number of the family of the log's lines
+abbrev logged : (help level : List ℕ) → FigureRow
+logged help level = record { name = codes "tsc_log_lines_total"; help = help; kind = Counter; labels = codes "{level=\"" ++ (level ++ codes "\"}") }
+
 -- the table
 abbrev pub figure_row : Figure → FigureRow
 figure_row SpansWaiting = single (codes "tsc_spans_waiting") (codes "Spans that were received, and neither handed over nor given up.") Gauge
@@ -55,6 +59,12 @@ figure_row Rejected = single (codes "tsc_spans_rejected_total") (codes "Spans of
 figure_row AttemptsTaken = attempted (codes "Attempts to send a line, by how they ended.") (codes "taken")
 figure_row AttemptsRefused = attempted [] (codes "refused")
 figure_row AttemptsUnanswered = attempted [] (codes "unanswered")
+figure_row OutputStalled = single (codes "tsc_output_stalled_seconds") (codes "Seconds since the write or delivery began that is under way, 0 where none is.") Gauge
+figure_row OldestWaiting = single (codes "tsc_oldest_waiting_seconds") (codes "Seconds that the oldest undecided trace has waited, as the shards told last, 0 where none waits.") Gauge
+figure_row LogWarnings = logged (codes "Lines of the log that tell of trouble, by their level.") (codes "warn")
+figure_row LogErrors = logged [] (codes "error")
+figure_row ClockJumps = single (codes "tsc_clock_jumps_total") (codes "Jumps of the wall clock that were seen.") Counter
+figure_row ClosedIdle = single (codes "tsc_connections_closed_idle_total") (codes "Connections that were closed for others, as those that had waited the longest.") Counter
 
 -- the values
 abbrev pub figure_value : Metrics → Figure → ℕ
@@ -79,13 +89,20 @@ figure_value metrics Rejected = metrics.rejected
 figure_value metrics AttemptsTaken = metrics.attempts_taken
 figure_value metrics AttemptsRefused = metrics.attempts_refused
 figure_value metrics AttemptsUnanswered = metrics.attempts_unanswered
+figure_value metrics OutputStalled = metrics.output_stalled_seconds
+figure_value metrics OldestWaiting = metrics.oldest_waiting_seconds
+figure_value metrics LogWarnings = metrics.log_warnings
+figure_value metrics LogErrors = metrics.log_errors
+figure_value metrics ClockJumps = metrics.clock_jumps
+figure_value metrics ClosedIdle = metrics.closed_idle
 
 -- each once, in their order
 abbrev pub all_figures : List Figure
 all_figures =
     SpansWaiting ∷ ReceivedBytes ∷ SentBytes ∷ Lines ∷ OutputBytes ∷ Memory
     ∷ Answered200 ∷ Answered400 ∷ Answered404 ∷ Answered405 ∷ Answered408 ∷ Answered413 ∷ Answered415 ∷ Answered431 ∷ Answered503
-    ∷ LateSampled ∷ LateNotSampled ∷ Rejected ∷ AttemptsTaken ∷ AttemptsRefused ∷ AttemptsUnanswered ∷ []
+    ∷ LateSampled ∷ LateNotSampled ∷ Rejected ∷ AttemptsTaken ∷ AttemptsRefused ∷ AttemptsUnanswered
+    ∷ OutputStalled ∷ OldestWaiting ∷ LogWarnings ∷ LogErrors ∷ ClockJumps ∷ ClosedIdle ∷ []
 
 -- the lines in front of a family's first number
 abbrev pub head_of : FigureRow → List ℕ

@@ -51,6 +51,18 @@ pub enum Figure {
     AttemptsRefused,
     /// Attempts to send a line that had no answer.
     AttemptsUnanswered,
+    /// Seconds since the write began that is under way.
+    OutputStalled,
+    /// Seconds that the oldest undecided trace has waited.
+    OldestWaiting,
+    /// Lines of the log that warned.
+    LogWarnings,
+    /// Lines of the log that told an error.
+    LogErrors,
+    /// Jumps of the wall clock.
+    ClockJumps,
+    /// Connections that were closed for others.
+    ClosedIdle,
 }
 
 impl Figure {
@@ -189,6 +201,42 @@ impl Figure {
                 FamilyKind::Counter,
                 "{result=\"unanswered\"}",
             ),
+            Figure::OutputStalled => (
+                "tsc_output_stalled_seconds",
+                "Seconds since the write or delivery began that is under way, 0 where none is.",
+                FamilyKind::Gauge,
+                "",
+            ),
+            Figure::OldestWaiting => (
+                "tsc_oldest_waiting_seconds",
+                "Seconds that the oldest undecided trace has waited, as the shards told last, 0 where none waits.",
+                FamilyKind::Gauge,
+                "",
+            ),
+            Figure::LogWarnings => (
+                "tsc_log_lines_total",
+                "Lines of the log that tell of trouble, by their level.",
+                FamilyKind::Counter,
+                "{level=\"warn\"}",
+            ),
+            Figure::LogErrors => (
+                "tsc_log_lines_total",
+                "",
+                FamilyKind::Counter,
+                "{level=\"error\"}",
+            ),
+            Figure::ClockJumps => (
+                "tsc_clock_jumps_total",
+                "Jumps of the wall clock that were seen.",
+                FamilyKind::Counter,
+                "",
+            ),
+            Figure::ClosedIdle => (
+                "tsc_connections_closed_idle_total",
+                "Connections that were closed for others, as those that had waited the longest.",
+                FamilyKind::Counter,
+                "",
+            ),
         }
     }
 
@@ -218,6 +266,12 @@ impl Figure {
             Figure::AttemptsTaken => metrics.attempts_taken,
             Figure::AttemptsRefused => metrics.attempts_refused,
             Figure::AttemptsUnanswered => metrics.attempts_unanswered,
+            Figure::OutputStalled => metrics.output_stalled_seconds,
+            Figure::OldestWaiting => metrics.oldest_waiting_seconds,
+            Figure::LogWarnings => metrics.log_warnings,
+            Figure::LogErrors => metrics.log_errors,
+            Figure::ClockJumps => metrics.clock_jumps,
+            Figure::ClosedIdle => metrics.closed_idle,
         }
     }
 }

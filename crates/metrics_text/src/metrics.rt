@@ -53,6 +53,18 @@ pub struct Metrics {
     pub attempts_refused: u64,
     /// How many attempts to send a line had no answer.
     pub attempts_unanswered: u64,
+    /// For how many seconds the write or delivery has been under way that is now; 0 where none is.
+    pub output_stalled_seconds: u64,
+    /// For how many seconds the trace has waited that has waited the longest, as the shards told last; 0 where none waits.
+    pub oldest_waiting_seconds: u64,
+    /// How many lines of the log warned.
+    pub log_warnings: u64,
+    /// How many lines of the log told an error.
+    pub log_errors: u64,
+    /// How often the wall clock was seen to jump.
+    pub clock_jumps: u64,
+    /// How many connections were closed for others, since they had waited the longest.
+    pub closed_idle: u64,
 }
 
 /// What a policy decided.

@@ -220,6 +220,12 @@ fn put_figures(text: &mut String, metrics: &Metrics) -> Result<(), AllocError>
         Figure::AttemptsTaken,
         Figure::AttemptsRefused,
         Figure::AttemptsUnanswered,
+        Figure::OutputStalled,
+        Figure::OldestWaiting,
+        Figure::LogWarnings,
+        Figure::LogErrors,
+        Figure::ClockJumps,
+        Figure::ClosedIdle,
     ];
     for figure in figures {
         put_figure(text, metrics, figure)?;

@@ -16,6 +16,8 @@
 #![tactic(auto)]
 
 mod answer;
+mod ends;
+mod keeping;
 mod setup;
 mod shard;
 

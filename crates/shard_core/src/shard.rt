@@ -1,5 +1,5 @@
 //! The buffer and the cache of a shard, and how it decides.
-ghost use Rattle.std.specs.Prelude.{◌≡◌, ◌⊎◌, ◌-◌, ◌^◌, min, ℕ, replicate, [], ◌∷◌, ◌++◌, ◌+◌, ◌/◌, if◌then◌else◌, ◌<◌, ◌≤◌, max, Bool, IsTrue, IsSome, true, false, length, OnOk, IfOk, IsErr, position, Some, None, slice_set};
+ghost use Rattle.std.specs.Prelude.{◌≡◌, ◌⊎◌, ◌-◌, ◌^◌, min, ℕ, replicate, [], ◌∷◌, ◌++◌, ◌+◌, ◌/◌, if◌then◌else◌, ◌<◌, ◌≤◌, max, Bool, IsTrue, IsSome, true, false, length, OnOk, IfOk, IsErr, position, find, option_map, Some, None};
 ghost use Rattle.std.specs.List.{list_all};
 ghost use Rattle.span_ids.specs.declared.outcome.Reason.{Reason};
 ghost use Rattle.span_ids.specs.Same.{same_trace};
@@ -13,10 +13,12 @@ ghost use Rattle.policy_tree.specs.Expressions.{expressions_in};
 ghost use Rattle.journal_theory.specs.Fate.{effect, effect_dealt, released_dealt, dropped_dealt};
 ghost use Rattle.decision_cache.specs.Lists.{empty_lists};
 ghost use Rattle.shard_core.specs.Taking.{Releases, is_kept};
-ghost use Rattle.trace_buffer.specs.Buffer.{Appended, Opened, is_new, opened_by, stands_undecided};
-ghost use Rattle.shard_core.specs.Holding.{KeepsAs, OpensAs, answer_to_append, leaves_forgotten, policies_on};
+ghost use Rattle.trace_buffer.specs.Buffer.{Appended, Opened, is_due_at, is_new, opened_by, stands_undecided};
+ghost use Rattle.shard_core.specs.Holding.{answer_to_append, policies_on};
 
 use crate::answer::{Decided, Taken, late};
+use crate::ends::all_but;
+use crate::keeping::{appended, opened};
 use crate::setup::{ShardSetup, Waits};
 use decision_cache::DecisionCache;
 use expression::Searches;
@@ -131,6 +133,17 @@ impl Shard {
         ensures spans { result.1 ≡ min (spans_waiting self.now.standing.episodes) (2 ^ 64 - 1) }
     {
         self.buffer.waiting()
+    }
+
+    /// When the trace opened that has waited longest of those that wait for their decision: the first that were due at
+    /// the last moment that there is, without a wait.
+    pub fn oldest_waiting(&self) -> Option<Moment>
+        ensures { result ≡ option_map (λ e. e.moment) (find (is_due_at (2 ^ 64 - 1) 0 0) self.now.standing.episodes) }
+    {
+        match self.buffer.next_due(Moment::MAX, 0, 0) {
+            Some(episode) => Some(episode.moment()),
+            None => None,
+        }
     }
 
     /// Whether every sender has ended.
@@ -300,18 +313,6 @@ impl Shard {
     }
 }
 
-/// Whether all others are set.
-fn all_but(ends: &Vec<bool>, place: usize) -> bool
-    ensures { result ≡ list_all (λ b. b) (slice_set ends.now.items place true) }
-{
-    for at in 0..ends.len() {
-        if at != place && !ends[at] {
-            return false;
-        }
-    }
-    true
-}
-
 /// The verdict of the policies on an episode's spans, and the place of the one that decides, if one does: of none where
 /// it is too big.
 fn decide_on<L: Limiter>(
@@ -391,54 +392,6 @@ fn open(
         buffer.open(first, clock, maximum_trace_size)
     } else {
         Err((first, AllocError))
-    }
-}
-
-/// What is answered to a span that was appended to its trace's episode, or found no memory.
-fn appended(done: Result<(), (Arrival, AllocError)>) -> Taken
-    ensures { result ≡ answer_to_append done }
-{
-    match done {
-        Ok(()) => Taken::Kept {
-            evicted: None,
-            cache: None,
-        },
-        Err(_) => Taken::Dropped(Reason::NoMemory),
-    }
-}
-
-/// What is answered to a span that opened an episode, or found no memory.
-fn opened(cache: &mut DecisionCache, done: Result<Option<Evicted>, (Arrival, AllocError)>) -> Taken
-    requires { IfOk done (λ evicted. leaves_forgotten evicted cache.old ≡ true) }
-    ensures { OpensAs done cache.old result cache.new }
-{
-    match done {
-        Ok(evicted) => keep(cache, evicted),
-        Err(_back) => Taken::Dropped(Reason::NoMemory),
-    }
-}
-
-/// What is answered to a span that opened an episode: the verdict of a decided episode that left is put.
-fn keep(cache: &mut DecisionCache, evicted: Option<Evicted>) -> Taken
-    requires { leaves_forgotten evicted cache.old ≡ true }
-    ensures { KeepsAs evicted cache.old result cache.new }
-{
-    let Some(left) = evicted else {
-        return Taken::Kept {
-            evicted: None,
-            cache: None,
-        };
-    };
-    let Some(verdict) = left.verdict else {
-        return Taken::Kept {
-            evicted: Some(left),
-            cache: None,
-        };
-    };
-    let put = cache.remember(left.trace, verdict);
-    Taken::Kept {
-        evicted: Some(left),
-        cache: Some(put),
     }
 }
 

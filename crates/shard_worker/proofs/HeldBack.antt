@@ -1,21 +1,25 @@
 -- What a shard takes while it holds a tick back.
 -- For the contracts of `take_item`, `take_tick` and `drain`.
-use Rattle.std.proofs.Common.{◌≡◌, ◌≢◌, ℕ, suc, ◌+◌, ◌<◌, ◌≤◌, Bool, true, false, List, [], ◌∷◌, ◌++◌, length, refl, sym, ap, ◌∙◌, subst, inl, inr, append_assoc, length-append, arith}
+use Rattle.std.proofs.Common.{◌≡◌, ◌≢◌, ℕ, suc, ◌+◌, ◌<◌, ◌≤◌, Bool, true, false, cond, List, [], ◌∷◌, ◌++◌, length, refl, sym, ap, ◌∙◌, subst, inl, inr, append_assoc, length-append, eq-eqb, ne_eqb, arith}
 use native.Mathlib.Decide.{ℕ_discrete}
 use Rattle.std.proofs.lemmas.List.{map-append, append-nil}
 use Rattle.otlp_types.specs.declared.arrival.Item.{Item}
 use Rattle.otlp_types.specs.declared.arrival.Item.TheVariants.{Span, Tick, End}
 use Rattle.otlp_types.specs.declared.arrival.Shipment.{Shipment}
 use Rattle.drop_ledger.specs.Places.{TallyState}
+use Rattle.lane_queue.specs.declared.calls.Call.{Call}
+use Rattle.lane_queue.specs.declared.calls.Call.TheVariants.{Popped, FoundEmpty}
+use Rattle.lane_queue.specs.Calls.{pops_of, is_empty_after}
 use Rattle.lane_queue.specs.Ends.{EndState, queues, TakesAt, WasEmptyAt}
 use Rattle.lane_queue.specs.Moments.{WasEmpty}
 use Rattle.lane_queue.specs.Merges.{of, IsMergeOf}
 use Rattle.lane_queue.proofs.Merging.{of-append, of_same, of_other, merge_more, merge_swap}
+use Rattle.lane_queue.proofs.Called.{pops-append, empty-append, still_empty}
 use Rattle.journal_theory.specs.Journal.{Entry, Settings, has_ids}
 use Rattle.journal_theory.specs.Marked.{MarksApply, marks_apply}
 use Rattle.shard_core.specs.Held.{Held, settings}
-use Rattle.shard_worker.specs.Work.{items, journal_of, is_tick, IsBehind}
-use Rattle.shard_worker.specs.Turns.{HasDone, TakesItem, HasTaken, HoldsBack, IsOf}
+use Rattle.shard_worker.specs.Work.{items, places, journal_of, is_tick, IsBehind, AreSince}
+use Rattle.shard_worker.specs.Turns.{HasDone, TakesItem, HasTaken, HoldsBack, IsCalled, AreAt, IsOf}
 use Rattle.shard_worker.proofs.Journals.{journal_one, items_more, unmarked}
 
 -- an item that is no span has valid ids
@@ -92,25 +96,90 @@ module _ {L : Type 0} (asks : L → ℕ → ℕ → ℕ → Bool → L → Type 
         subst (λ J. HasDone asks first before shard shipped tally limiter J) (sym same) holds.2,
       )
 
+-- ---- the calls since a tick was popped
+
+places-append : (a b : List (ℕ × Entry)) → places (a ++ b) ≡ places a ++ places b
+places-append a b = map-append (λ (x : ℕ × Entry). x.0) a b
+
+-- no call yet
+pub called_none : (old : List Call) → IsCalled old old [] []
+called_none old = (sym (append-nil old), refl)
+
+pub at_none : (place : ℕ) → AreAt place []
+at_none place k before apart = refl
+
+-- one item more was popped
+pub called_more : (old between new : List Call) (popped : List (ℕ × Entry)) (calls : List Call) (place : ℕ) (e : Entry) → IsCalled old between popped calls → new ≡ between ++ Popped place ∷ [] → IsCalled old new (popped ++ (place, e) ∷ []) (calls ++ Popped place ∷ [])
+called_more old between new popped calls place e is more = (
+  more ∙ ap (λ l. l ++ Popped place ∷ []) is.0 ∙ append_assoc old calls (Popped place ∷ []),
+  pops-append calls (Popped place ∷ []) ∙ ap (λ l. l ++ place ∷ []) is.1 ∙ sym (places-append popped ((place, e) ∷ [])),
+)
+
+at_last : (place : ℕ) (calls : List Call) (call : Call) → AreAt place calls → AreAt place (call ∷ []) → AreAt place (calls ++ call ∷ [])
+at_last place calls call are is k before apart = empty-append k before calls (call ∷ []) ∙ is k (is_empty_after k before calls) apart ∙ are k before apart
+
+pub at_more : (place : ℕ) (calls : List Call) → AreAt place calls → AreAt place (calls ++ Popped place ∷ [])
+at_more place calls are = at_last place calls (Popped place) are (λ k before apart. ap (λ b. cond b false before) (ne_eqb place k (λ e. apart (sym e))))
+
+-- the queue was found empty
+pub called_empty : (old between new : List Call) (popped : List (ℕ × Entry)) (calls : List Call) (place : ℕ) → IsCalled old between popped calls → new ≡ between ++ FoundEmpty place ∷ [] → IsCalled old new popped (calls ++ FoundEmpty place ∷ [])
+called_empty old between new popped calls place is more = (
+  more ∙ ap (λ l. l ++ FoundEmpty place ∷ []) is.0 ∙ append_assoc old calls (FoundEmpty place ∷ []),
+  pops-append calls (FoundEmpty place ∷ []) ∙ append-nil (pops_of calls) ∙ is.1,
+)
+
+pub at_empty : (place : ℕ) (calls : List Call) → AreAt place calls → AreAt place (calls ++ FoundEmpty place ∷ [])
+at_empty place calls are = at_last place calls (FoundEmpty place) are (λ k before apart. ap (λ b. cond b true before) (ne_eqb place k (λ e. apart (sym e))))
+
+-- more calls behind those of a start
+pub calls_more : (start old new calls more : List Call) → old ≡ start ++ calls → new ≡ old ++ more → new ≡ start ++ (calls ++ more)
+calls_more start old new calls more is then = then ∙ ap (λ l. l ++ more) is ∙ append_assoc start calls more
+
+-- some calls, and then others
+pub called_both : (old between new : List Call) (popped more : List (ℕ × Entry)) (calls others : List Call) → IsCalled old between popped calls → IsCalled between new more others → IsCalled old new (popped ++ more) (calls ++ others)
+called_both old between new popped more calls others is then = (
+  then.0 ∙ ap (λ l. l ++ others) is.0 ∙ append_assoc old calls others,
+  pops-append calls others ∙ ap (λ l. l ++ pops_of others) is.1 ∙ ap (λ l. places popped ++ l) then.1 ∙ sym (places-append popped more),
+)
+
+-- behind the pop of a tick
+pub called_since : (past old new : List Call) (at place : ℕ) (popped : List (ℕ × Entry)) (calls : List Call) → at ≡ place → old ≡ past ++ Popped at ∷ [] → IsCalled old new popped calls → new ≡ past ++ Popped place ∷ calls
+called_since past old new at place popped calls same is since =
+    since.0 ∙ ap (λ l. l ++ calls) is ∙ append_assoc past (Popped at ∷ []) calls ∙ ap (λ p. past ++ Popped p ∷ calls) same
+
+-- nothing of the queue at one place is among what was popped of others
+pub own_none : (place other : ℕ) (drained more : List (ℕ × Entry)) → place ≢ other → IsOf other more → of place (items drained) ≡ [] → of place (items (drained ++ more)) ≡ []
+own_none place other drained more apart is none = of_both place drained more ∙ ap (λ l. l ++ of place (items more)) none ∙ is place apart
+
+pub own_none_last : (place other : ℕ) (drained : List (ℕ × Entry)) (e : Entry) → place ≢ other → of place (items drained) ≡ [] → of place (items (drained ++ (other, e) ∷ [])) ≡ []
+own_none_last place other drained e apart none = ap (of place) (items_more drained other e) ∙ of_other place other (items drained) e.item (λ same. apart (sym same)) ∙ none
+
 -- the queue was empty: nothing that waited there is overtaken
-pub behind_empty : (n place at : ℕ) (held : Item) (ends : List (EndState Item)) (earlier drained : List (ℕ × Entry)) → at ≢ place
-    → IsMergeOf ends (items (earlier ++ drained) ++ (at, held) ∷ []) → WasEmptyAt n ends place → IsBehind n earlier drained place
-behind_empty n place at held ends earlier drained apart merge empty =
-    inl (subst (λ (l : List Item). WasEmpty n l) (merge.each place empty.0 empty.1 ∙ of_other place at (items (earlier ++ drained)) held apart) empty.2)
+pub behind_empty : (n place at : ℕ) (held : Item) (ends : List (EndState Item)) (earlier drained : List (ℕ × Entry)) (calls : List Call) → at ≢ place
+    → IsMergeOf ends (items (earlier ++ drained) ++ (at, held) ∷ []) → WasEmptyAt n ends place → IsBehind n earlier drained (calls ++ FoundEmpty place ∷ []) place
+behind_empty n place at held ends earlier drained calls apart merge empty =
+    inl (
+      empty-append place false calls (FoundEmpty place ∷ []) ∙ ap (λ b. cond b true (is_empty_after place false calls)) (eq-eqb place place refl),
+      subst (λ (l : List Item). WasEmpty n l) (merge.each place empty.0 empty.1 ∙ of_other place at (items (earlier ++ drained)) held apart) empty.2,
+    )
 
 -- what was popped of others since changes nothing
-pub behind_kept : (n place other : ℕ) (earlier drained more : List (ℕ × Entry)) → place ≢ other → IsOf other more → IsBehind n earlier drained place → IsBehind n earlier (drained ++ more) place
-behind_kept n place other earlier drained more apart is (inl empty) =
-    inl (subst (λ (l : List Item). WasEmpty n l)
-    (sym (ap (λ l. of place (items l)) (sym (append_assoc earlier drained more)) ∙ of_both place (earlier ++ drained) more ∙ ap (λ l. of place (items (earlier ++ drained)) ++ l) (is place apart) ∙ append-nil (of place (items (earlier ++ drained)))))
-    empty)
-behind_kept n place other earlier drained more apart is (inr many) =
+pub behind_kept : (n place other : ℕ) (earlier drained more : List (ℕ × Entry)) (calls others : List Call) → place ≢ other → IsOf other more → AreAt other others → IsBehind n earlier drained calls place → IsBehind n earlier (drained ++ more) (calls ++ others) place
+behind_kept n place other earlier drained more calls others apart is are (inl empty) =
+    inl (
+      empty-append place false calls others ∙ are place (is_empty_after place false calls) apart ∙ empty.0,
+      subst (λ (l : List Item). WasEmpty n l)
+          (sym (ap (λ l. of place (items l)) (sym (append_assoc earlier drained more)) ∙ of_both place (earlier ++ drained) more ∙ ap (λ l. of place (items (earlier ++ drained)) ++ l) (is place apart) ∙ append-nil (of place (items (earlier ++ drained)))))
+          empty.1,
+    )
+behind_kept n place other earlier drained more calls others apart is are (inr many) =
     inr (subst (λ (l : List Item). n ≤ length l) (sym (of_both place drained more ∙ ap (λ l. of place (items drained) ++ l) (is place apart) ∙ append-nil (of place (items drained)))) many)
 
 -- what was popped of others before changes nothing
-pub behind_more : (n place : ℕ) (earlier drained more : List (ℕ × Entry)) → IsBehind n (earlier ++ drained) more place → IsBehind n earlier (drained ++ more) place
-behind_more n place earlier drained more (inl empty) = inl (subst (λ l. WasEmpty n (of place (items l))) (append_assoc earlier drained more) empty)
-behind_more n place earlier drained more (inr many) =
+pub behind_more : (n place : ℕ) (earlier drained more : List (ℕ × Entry)) (calls others : List Call) → IsBehind n (earlier ++ drained) more others place → IsBehind n earlier (drained ++ more) (calls ++ others) place
+behind_more n place earlier drained more calls others (inl empty) =
+    inl (empty-append place false calls others ∙ still_empty place others empty.0 (is_empty_after place false calls), subst (λ l. WasEmpty n (of place (items l))) (append_assoc earlier drained more) empty.1)
+behind_more n place earlier drained more calls others (inr many) =
     inr (subst (λ (m : ℕ). n ≤ m) (sym (ap length (of_both place drained more) ∙ length-append (of place (items drained)) (of place (items more)))) (omega (arith, many)))
 
 -- two more of a list in three parts
@@ -118,13 +187,13 @@ pub regroup_two : {X : Type 0} (a b c : List X) (x y : X) → (((a ++ b) ++ c) +
 regroup_two a b c x y = append_assoc ((a ++ b) ++ c) (x ∷ []) (y ∷ []) ∙ ap (λ l. l ++ x ∷ y ∷ []) (append_assoc a b c) ∙ append_assoc a (b ++ c) (x ∷ y ∷ [])
 
 -- what holds of the queues before this one, and of this one, holds up to the next
-pub behind_next : (n other place : ℕ) (earlier drained more : List (ℕ × Entry)) → IsOf other more → ((k : ℕ) → k < other → k ≢ place → IsBehind n earlier drained k) → IsBehind n (earlier ++ drained) more other
-    → (k : ℕ) → k < other + 1 → k ≢ place → IsBehind n earlier (drained ++ more) k
-behind_next n other place earlier drained more is before here k low apart = elim (ℕ_discrete k other) as (λ _. IsBehind n earlier (drained ++ more) k) [
-  | yes same ↦ subst (λ j. IsBehind n earlier (drained ++ more) j) (sym same) (behind_more n other earlier drained more here)
-  | no other_one ↦ behind_kept n k other earlier drained more other_one is (before k (omega (arith, low, other_one)) apart)
+pub behind_next : (n other place : ℕ) (earlier drained more : List (ℕ × Entry)) (calls others : List Call) → IsOf other more → AreAt other others → ((k : ℕ) → k < other → k ≢ place → IsBehind n earlier drained calls k) → IsBehind n (earlier ++ drained) more others other
+    → (k : ℕ) → k < other + 1 → k ≢ place → IsBehind n earlier (drained ++ more) (calls ++ others) k
+behind_next n other place earlier drained more calls others is are before here k low apart = elim (ℕ_discrete k other) as (λ _. IsBehind n earlier (drained ++ more) (calls ++ others) k) [
+  | yes same ↦ subst (λ j. IsBehind n earlier (drained ++ more) (calls ++ others) j) (sym same) (behind_more n other earlier drained more calls others here)
+  | no other_one ↦ behind_kept n k other earlier drained more calls others other_one is are (before k (omega (arith, low, other_one)) apart)
 ]
 
 -- the tick's own queue is passed over
-pub behind_own : (n other place : ℕ) (earlier drained : List (ℕ × Entry)) → other ≡ place → ((k : ℕ) → k < other → k ≢ place → IsBehind n earlier drained k) → (k : ℕ) → k < other + 1 → k ≢ place → IsBehind n earlier drained k
-behind_own n other place earlier drained is before k low apart = before k (omega (arith, low, apart, is)) apart
+pub behind_own : (n other place : ℕ) (earlier drained : List (ℕ × Entry)) (calls : List Call) → other ≡ place → ((k : ℕ) → k < other → k ≢ place → IsBehind n earlier drained calls k) → (k : ℕ) → k < other + 1 → k ≢ place → IsBehind n earlier drained calls k
+behind_own n other place earlier drained calls is before k low apart = before k (omega (arith, low, apart, is)) apart

@@ -118,7 +118,7 @@ have_all_ended s shard J dealt is stands finished = sym (all_ended J s.senders) 
 
 -- the last End was taken
 pub works : {L : Type 0} (asks : L → ℕ → ℕ → ℕ → Bool → L → Type 0) (first : L) (capacity number : ℕ) (s : Settings) (shard : Held) (receiver : ReceiverState Item) (items_shipped : List Shipment) (sender : EndState Shipment) (before tally : TallyState) (limiter : L) (popped : List (ℕ × Entry))
-    → settings shard ≡ s → is_finished shard ≡ true → sender.items ≡ items_shipped ++ End number ∷ [] → TicksWait capacity (length receiver.ends) s.senders popped → Kept asks first s receiver.ends before shard items_shipped tally limiter popped
+    → settings shard ≡ s → is_finished shard ≡ true → sender.items ≡ items_shipped ++ End number ∷ [] → TicksWait capacity (length receiver.ends) s.senders popped receiver.calls → Kept asks first s receiver.ends before shard items_shipped tally limiter popped
     → ShardWorks asks capacity number s shard receiver sender before tally first limiter popped
 works asks first capacity number s shard receiver items_shipped sender before tally limiter popped is finished shipped wait kept =
     let J = journal_of popped in
@@ -145,7 +145,7 @@ works asks first capacity number s shard receiver items_shipped sender before ta
 -- the same of the values that were given back
 pub works_ended : {L : Type 0} (asks : L → ℕ → ℕ → ℕ → Bool → L → Type 0) (first : L) (capacity number turns_number : ℕ) (s : Settings) (shard shard' : Held) (receiver receiver' : ReceiverState Item) (sender sender' : EndState Shipment) (before tally tally' : TallyState) (limiter limiter' : L) (popped : List (ℕ × Entry))
     → settings shard ≡ s → is_finished shard ≡ true → turns_number ≡ number → sender' ≡ with_item sender (End turns_number) → shard' ≡ shard → limiter' ≡ limiter → receiver' ≡ receiver → tally' ≡ tally
-    → TicksWait capacity (length receiver.ends) s.senders popped → Kept asks first s receiver.ends before shard sender.items tally limiter popped → ShardWorks asks capacity number s shard' receiver' sender' before tally' first limiter' popped
+    → TicksWait capacity (length receiver.ends) s.senders popped receiver.calls → Kept asks first s receiver.ends before shard sender.items tally limiter popped → ShardWorks asks capacity number s shard' receiver' sender' before tally' first limiter' popped
 works_ended {L} asks first capacity number turns_number s shard shard' receiver receiver' sender sender' before tally tally' limiter limiter' popped is finished numbers shipped same_shard same_limiter same_receiver same_tally wait kept =
     let P : Held → ReceiverState Item → TallyState → L → Type 0 = λ h r t l. ShardWorks asks capacity number s h r sender' before t first l popped in
     let here = works asks first capacity number s shard receiver sender.items sender' before tally limiter popped is finished (ap (λ (e : EndState Shipment). e.items) shipped ∙ ap (λ n. sender.items ++ End n ∷ []) numbers) wait kept in

@@ -1,7 +1,8 @@
 //! Items in their order: a tick is taken behind what waited in the other queues when it was popped.
-ghost use Rattle.std.specs.Prelude.{◌≡◌, ◌≢◌, ◌<◌, ◌+◌, ◌++◌, ℕ, List, length, IfSome, MatchOption, true, false};
+ghost use Rattle.std.specs.Prelude.{◌≡◌, ◌≢◌, ◌<◌, ◌+◌, ◌∷◌, ◌++◌, ℕ, List, [], length, IfSome, MatchOption, true, false};
 ghost use Rattle.std.specs.List.{list_all};
 ghost use Rattle.otlp_types.specs.declared.arrival.Item.{Item};
+ghost use Rattle.lane_queue.specs.declared.calls.Call.{Call};
 ghost use Rattle.lane_queue.specs.Ends.{EndState, queues, TakesAt};
 ghost use Rattle.drop_ledger.specs.Places.{TallyState};
 ghost use Rattle.policy_tree.specs.Tree.{limiters};
@@ -10,8 +11,8 @@ ghost use Rattle.policy_eval.specs.Meaning.{knows};
 ghost use Rattle.journal_theory.specs.Journal.{Entry, has_ids};
 ghost use Rattle.shard_core.specs.Held.{has_due, is_finished, settings};
 ghost use Rattle.shard_core.specs.Taking.{ends_after};
-ghost use Rattle.shard_worker.specs.Work.{Round, taken_in, IsBehind, IsRound};
-ghost use Rattle.shard_worker.specs.Turns.{HasTaken, HoldsBack, IsOf};
+ghost use Rattle.shard_worker.specs.Work.{Round, calls_in, taken_in, IsBehind, IsRound};
+ghost use Rattle.shard_worker.specs.Turns.{AreAt, HasTaken, HoldsBack, IsCalled, IsOf};
 
 use crate::turn::Turns;
 use drop_ledger::Counter;
@@ -53,9 +54,10 @@ pub fn take_item<
     requires running { is_finished turns.old.shard ≡ false }
     requires ids { has_ids item ≡ true }
     requires nodes { knows (RateLimits.has_node turns.old.limiter) (limiters (meaning turns.old.shard.policies)) ≡ true }
-    ensures takes { (first : _) (before : TallyState) (earlier : List (ℕ × Entry)) (place : ℕ) → receiver.old.next ≡ place + 1
+    ensures takes { (first : _) (before : TallyState) (earlier : List (ℕ × Entry)) (past : List Call) (place : ℕ) → receiver.old.next ≡ place + 1 → receiver.old.calls ≡ past ++ Call.Popped place ∷ []
         → HoldsBack RateLimits.asks first (settings turns.old.shard) receiver.old.ends before turns.old.shard turns.old.sender.items turns.old.tally turns.old.limiter earlier place item
         → (round : Round) × IsRound QueueRoom.capacity (length receiver.old.ends) (settings turns.old.shard).senders earlier round
+        × (receiver.new.calls ≡ past ++ calls_in round)
         × HasTaken RateLimits.asks first (settings turns.old.shard) receiver.new.ends before turns.new.shard turns.new.sender.items turns.new.tally turns.new.limiter (earlier ++ taken_in round) }
     ensures nothing_due { has_due turns.new.shard ≡ false }
     ensures finished { result ≡ is_finished turns.new.shard }
@@ -92,9 +94,10 @@ fn take_tick<
     requires nothing_due { has_due turns.old.shard ≡ false }
     requires running { is_finished turns.old.shard ≡ false }
     requires nodes { knows (RateLimits.has_node turns.old.limiter) (limiters (meaning turns.old.shard.policies)) ≡ true }
-    ensures takes { (first : _) (before : TallyState) (earlier : List (ℕ × Entry)) (place : ℕ) → receiver.old.next ≡ place + 1
+    ensures takes { (first : _) (before : TallyState) (earlier : List (ℕ × Entry)) (past : List Call) (place : ℕ) → receiver.old.next ≡ place + 1 → receiver.old.calls ≡ past ++ Call.Popped place ∷ []
         → HoldsBack RateLimits.asks first (settings turns.old.shard) receiver.old.ends before turns.old.shard turns.old.sender.items turns.old.tally turns.old.limiter earlier place (Item.Tick moment)
         → (round : Round) × IsRound QueueRoom.capacity (length receiver.old.ends) (settings turns.old.shard).senders earlier round
+        × (receiver.new.calls ≡ past ++ calls_in round)
         × HasTaken RateLimits.asks first (settings turns.old.shard) receiver.new.ends before turns.new.shard turns.new.sender.items turns.new.tally turns.new.limiter (earlier ++ taken_in round) }
     ensures nothing_due { has_due turns.new.shard ≡ false }
     ensures finished { result ≡ is_finished turns.new.shard }
@@ -139,9 +142,12 @@ fn drain<
     requires nodes { knows (RateLimits.has_node turns.old.limiter) (limiters (meaning turns.old.shard.policies)) ≡ true }
     ensures takes { (first : _) (before : TallyState) (earlier : List (ℕ × Entry)) (at : ℕ) (held : Item) → at ≢ place
         → HoldsBack RateLimits.asks first (settings turns.old.shard) receiver.old.ends before turns.old.shard turns.old.sender.items turns.old.tally turns.old.limiter earlier at held
-        → (drained : List (ℕ × Entry)) × IsOf place drained × MatchOption result
-        (IsBehind QueueRoom.capacity earlier drained place × HoldsBack RateLimits.asks first (settings turns.old.shard) receiver.new.ends before turns.new.shard turns.new.sender.items turns.new.tally turns.new.limiter (earlier ++ drained) at held)
-        (λ last. (ends : List (EndState Item)) × TakesAt QueueRoom.capacity place last ends receiver.new.ends × HoldsBack RateLimits.asks first (settings turns.old.shard) ends before turns.new.shard turns.new.sender.items turns.new.tally turns.new.limiter (earlier ++ drained) at held) }
+        → (drained : List (ℕ × Entry)) × (calls : List Call) × IsOf place drained × AreAt place calls × MatchOption result
+        (IsCalled receiver.old.calls receiver.new.calls drained calls × IsBehind QueueRoom.capacity earlier drained calls place
+        × HoldsBack RateLimits.asks first (settings turns.old.shard) receiver.new.ends before turns.new.shard turns.new.sender.items turns.new.tally turns.new.limiter (earlier ++ drained) at held)
+        (λ last. (ends : List (EndState Item)) × TakesAt QueueRoom.capacity place last ends receiver.new.ends
+        × HoldsBack RateLimits.asks first (settings turns.old.shard) ends before turns.new.shard turns.new.sender.items turns.new.tally turns.new.limiter (earlier ++ drained) at held
+        × (between : List Call) × IsCalled receiver.old.calls between drained calls × (receiver.new.calls ≡ between ++ Call.Popped place ∷ [])) }
     ensures last { IfSome result (λ last. (has_ids last ≡ true) × (list_all (λ b. b) (ends_after last turns.new.shard.standing.ends) ≡ true)) }
     ensures nothing_due { has_due turns.new.shard ≡ false }
     ensures running { is_finished turns.new.shard ≡ false }

@@ -1,6 +1,6 @@
 //! What a shard tells those who look at it while it runs. No contract rests on it.
 use lane_queue::{Gate, Receiver, Room, ShardLoad};
-use otlp_types::Item;
+use otlp_types::{Item, Span};
 use shard_core::{Decided, Shard, Taken};
 use span_ids::Moment;
 
@@ -13,6 +13,30 @@ pub fn has_memory<G: Gate>(gate: &G) -> bool {
         Some(brake) => !brake.refuses_spans(),
         None => true,
     }
+}
+
+/// Tells of a span of which attributes were left out: its own, or of its events or links.
+pub fn tell_item<G: Gate>(gate: &G, item: &Item) {
+    if let Item::Span(arrival) = item {
+        if is_incomplete(arrival.rec.span.get()) {
+            gate.takes_incomplete();
+        }
+    }
+}
+
+/// Whether attributes of a span, or of its events or links, were left out.
+fn is_incomplete(span: &Span) -> bool {
+    span.dropped_attributes_count > 0
+        || span
+            .events
+            .as_slice()
+            .iter()
+            .any(|event| event.dropped_attributes_count > 0)
+        || span
+            .links
+            .as_slice()
+            .iter()
+            .any(|link| link.dropped_attributes_count > 0)
 }
 
 /// Tells of a span that is handed over late.
@@ -51,17 +75,21 @@ pub fn tell_load<C: Room, G: Gate>(
     told: Option<Moment>,
     telling: Option<Moment>,
 ) -> Option<Moment> {
-    if telling.is_none() {
+    let Some(now) = telling else {
         return told;
-    }
+    };
     let (traces, spans) = shard.waiting();
-    let queued = receiver.len();
+    let waited = match shard.oldest_waiting() {
+        Some(opened) => now.saturating_sub(opened),
+        None => 0,
+    };
     gate.holds(
         number,
         ShardLoad {
-            queued,
+            queued: receiver.len(),
             traces,
             spans,
+            waited,
         },
     );
     telling

@@ -1,6 +1,4 @@
-use Rattle.std.proofs.Common.{rules, ◌≡◌, ◌∙◌, ◌+◌, ◌<◌, ◌++◌, ◌∷◌, [], refl, sym, ap, subst, length, set, slice_get, Some, append_assoc, length-append, arith}
-use Rattle.std.proofs.lemmas.Option.{slice_get-map}
-use Rattle.std.specs.Prelude.{map}
+use Rattle.std.proofs.Common.{rules, ◌≡◌, ◌∙◌, ◌<◌, ◌++◌, ◌∷◌, [], refl, sym, ap, subst, length, set, slice_get, Some, append_assoc, length-append, arith}
 use Rattle.lane_queue.specs.Grid.{ends_of, dealt}
 use Rattle.lane_queue.proofs.Dealing.{get_at, dealt_none, dealt_more, ends_set, ends_get}
 use Rattle.lane_queue.proofs.making.deal.Goals as goal

@@ -1,7 +1,7 @@
-use Rattle.std.proofs.Common.{◌≡◌, ◌∙◌, ◌+◌, length, refl, sym, ap, subst, arith}
+use Rattle.std.proofs.Common.{◌≡◌, ◌∙◌, ◌+◌, length, sym, subst, arith}
 use Rattle.std.proofs.lemmas.List.{length-map}
 use Rattle.lane_queue.specs.Grid.{ends_of}
-use Rattle.lane_queue.proofs.Grids.{Growing, grow_first, grow_more, grown}
+use Rattle.lane_queue.proofs.Grids.{Growing, grow_first, grow_more}
 use Rattle.lane_queue.proofs.making.new_grid.Goals as goal
 
 pub loop-init : goal.loop-init

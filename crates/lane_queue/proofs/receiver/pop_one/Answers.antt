@@ -1,7 +1,6 @@
 use Rattle.std.proofs.Common.{◌≡◌, ap, set, ◌∙◌, Some, slice_get, vec_len, rules}
 use Rattle.std.proofs.lemmas.List.{set-get_or}
 use Rattle.std.proofs.lemmas.Option.{slice_get_read}
-use Rattle.lane_queue.specs.Ends.{queues}
 use Rattle.lane_queue.proofs.EndLists.{same_queues}
 use Rattle.lane_queue.proofs.receiver.pop_one.Goals as goal
 

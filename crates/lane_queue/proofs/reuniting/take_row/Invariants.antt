@@ -1,4 +1,4 @@
-use Rattle.std.proofs.Common.{◌≡◌, ◌≤◌, length, vec_len, vec_capacity}
+use Rattle.std.proofs.Common.{◌≡◌, ◌≤◌, vec_len, vec_capacity}
 use Rattle.lane_queue.specs.Grid.{ends_of, dealt}
 use Rattle.lane_queue.proofs.reuniting.take_row.Given as goal
 

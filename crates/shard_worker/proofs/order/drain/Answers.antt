@@ -3,12 +3,13 @@
 use Rattle.std.proofs.Common.{◌∙◌, ◌++◌, ◌∷◌, List, [], refl, sym, ap, subst, append-nil, append_assoc, inr, arith}
 use Rattle.std.specs.List.{list_all}
 use Rattle.otlp_types.specs.declared.arrival.Item.{Item}
-use Rattle.lane_queue.specs.Ends.{EndState, ReceiverState}
+use Rattle.lane_queue.specs.declared.calls.Call.TheVariants.{Popped, FoundEmpty}
+use Rattle.lane_queue.specs.Ends.{EndState}
 use Rattle.journal_theory.specs.Journal.{Entry}
 use Rattle.shard_core.specs.Held.{settings}
 use Rattle.shard_worker.specs.Turns.{HoldsBack}
 use Rattle.shard_worker.proofs.Journals.{unmarked}
-use Rattle.shard_worker.proofs.HeldBack.{of_none, of_one, one_longer, holding_taking, holding_skipping, behind_empty}
+use Rattle.shard_worker.proofs.HeldBack.{of_none, of_one, one_longer, called_none, called_more, called_empty, at_none, at_more, at_empty, holding_taking, holding_skipping, behind_empty}
 use Rattle.shard_worker.proofs.order.drain.Goals as goal
 
 pub loop-init : goal.loop-init
@@ -23,7 +24,10 @@ loop-init g c = (
   λ node. refl,
   λ first before earlier at held apart holds. (
     [],
+    [],
     of_none c.args.place,
+    at_none c.args.place,
+    called_none c.args.receiver.now.calls,
     refl,
     subst (λ l. HoldsBack g.RateLimits.Limiter.asks first (settings c.args.turns.now.shard) c.args.receiver.now.ends before c.args.turns.now.shard c.args.turns.now.sender.items c.args.turns.now.tally c.args.turns.now.limiter l at held) (sym (append-nil earlier)) holds,
   ),
@@ -33,8 +37,17 @@ pub returns-in_default-clause-takes : goal.returns-in_default-clause-takes
 returns-in_default-clause-takes g c = λ first before earlier at held apart holds.
     let h = c.loop.invariant.8 first before earlier at held apart holds in
     let empty = c.in_default.ensures.empty in
-    let back = subst (λ (l : List (EndState Item)). HoldsBack g.RateLimits.Limiter.asks first (settings c.args.turns.now.shard) l before c.loop.turns.shard c.loop.turns.sender.items c.loop.turns.tally c.loop.turns.limiter (earlier ++ h.0) at held) (sym (ap (λ (r : ReceiverState Item). r.ends) empty.0)) h.3 in
-    (h.0, h.1, (behind_empty g.QueueRoom.Room.capacity c.args.place at held c.loop.receiver.ends earlier h.0 apart h.3.0 empty.1, back))
+    let back = subst (λ (l : List (EndState Item)). HoldsBack g.RateLimits.Limiter.asks first (settings c.args.turns.now.shard) l before c.loop.turns.shard c.loop.turns.sender.items c.loop.turns.tally c.loop.turns.limiter (earlier ++ h.0) at held) (sym empty.0) h.6 in (
+      h.0,
+      h.1 ++ FoundEmpty c.args.place ∷ [],
+      h.2,
+      at_empty c.args.place h.1 h.3,
+      (
+        called_empty c.args.receiver.now.calls c.loop.receiver.calls c.pop_at.new.self.calls h.0 h.1 c.args.place h.4 c.in_default.ensures.found,
+        behind_empty g.QueueRoom.Room.capacity c.args.place at held c.loop.receiver.ends earlier h.0 h.1 apart h.6.0 empty.1,
+        back,
+      ),
+    )
 
 pub loop-preserved-then-not-is_taken : goal.loop-preserved-then-not-is_taken
 loop-preserved-then-not-is_taken g c =
@@ -52,10 +65,13 @@ loop-preserved-then-not-is_taken g c =
           let item = c.in-Some.item in
           let e : Entry = unmarked item in
           let more = holding_skipping g.RateLimits.Limiter.asks first g.QueueRoom.Room.capacity (settings c.args.turns.now.shard) before c.args.place at item held c.loop.receiver.ends c.pop_at.new.self.ends c.loop.turns.shard c.loop.turns.sender.items c.loop.turns.tally c.loop.turns.limiter (earlier ++ h.0)
-          apart (sym c.is_taken.ensures ∙ c.if-not-is_taken.true) c.in-Some.ensures.first h.3 in (
+          apart (sym c.is_taken.ensures ∙ c.if-not-is_taken.true) c.in-Some.ensures.first h.6 in (
             h.0 ++ (c.args.place, e) ∷ [],
-            of_one c.args.place h.0 e h.1,
-            one_longer c.args.place c.loop.counter h.0 e h.2,
+            h.1 ++ Popped c.args.place ∷ [],
+            of_one c.args.place h.0 e h.2,
+            at_more c.args.place h.1 h.3,
+            called_more c.args.receiver.now.calls c.loop.receiver.calls c.pop_at.new.self.calls h.0 h.1 c.args.place e h.4 c.in-Some.ensures.popped,
+            one_longer c.args.place c.loop.counter h.0 e h.5,
             subst (λ l. HoldsBack g.RateLimits.Limiter.asks first (settings c.args.turns.now.shard) c.pop_at.new.self.ends before c.loop.turns.shard c.loop.turns.sender.items c.loop.turns.tally c.loop.turns.limiter l at held) (append_assoc earlier h.0 ((c.args.place, e) ∷ [])) more,
           ),
     )
@@ -63,7 +79,7 @@ loop-preserved-then-not-is_taken g c =
 pub returns-then-finishes_with-clause-takes : goal.returns-then-finishes_with-clause-takes
 returns-then-finishes_with-clause-takes g c = λ first before earlier at held apart holds.
     let h = c.loop.invariant.8 first before earlier at held apart holds in
-    (h.0, h.1, (c.loop.receiver.ends, c.in-Some.ensures.first, h.3))
+    (h.0, h.1, h.2, h.3, (c.loop.receiver.ends, c.in-Some.ensures.first, h.6, c.loop.receiver.calls, h.4, c.in-Some.ensures.popped))
 
 pub loop-preserved : goal.loop-preserved
 loop-preserved g c =
@@ -80,12 +96,15 @@ loop-preserved g c =
       λ first before earlier at held apart holds.
           let h = inv.8 first before earlier at held apart holds in
           let item = c.in-Some.item in
-          let t = told.takes first before _ h.3.2 in
+          let t = told.takes first before _ h.6.2 in
           let more = holding_taking g.RateLimits.Limiter.asks first g.QueueRoom.Room.capacity (settings c.args.turns.now.shard) before c.args.place at item held c.loop.receiver.ends c.pop_at.new.self.ends c.loop.turns.shard c.turn.new.self.shard c.loop.turns.sender.items c.turn.new.self.sender.items c.loop.turns.tally c.turn.new.self.tally c.loop.turns.limiter c.turn.new.self.limiter (earlier ++ h.0)
-          apart (told.settings ∙ inv.2) (sym c.is_taken.ensures ∙ c.if-not-is_taken.false) c.in-Some.ensures.first h.3 t in (
+          apart (told.settings ∙ inv.2) (sym c.is_taken.ensures ∙ c.if-not-is_taken.false) c.in-Some.ensures.first h.6 t in (
             h.0 ++ (c.args.place, t.taken) ∷ [],
-            of_one c.args.place h.0 t.taken h.1,
-            one_longer c.args.place c.loop.counter h.0 t.taken h.2,
+            h.1 ++ Popped c.args.place ∷ [],
+            of_one c.args.place h.0 t.taken h.2,
+            at_more c.args.place h.1 h.3,
+            called_more c.args.receiver.now.calls c.loop.receiver.calls c.pop_at.new.self.calls h.0 h.1 c.args.place t.taken h.4 c.in-Some.ensures.popped,
+            one_longer c.args.place c.loop.counter h.0 t.taken h.5,
             subst (λ l. HoldsBack g.RateLimits.Limiter.asks first (settings c.args.turns.now.shard) c.pop_at.new.self.ends before c.turn.new.self.shard c.turn.new.self.sender.items c.turn.new.self.tally c.turn.new.self.limiter l at held) (append_assoc earlier h.0 ((c.args.place, t.taken) ∷ [])) more,
           ),
     )
@@ -93,4 +112,4 @@ loop-preserved g c =
 pub returns-clause-takes : goal.returns-clause-takes
 returns-clause-takes g c = λ first before earlier at held apart holds.
     let h = c.loop.invariant.8 first before earlier at held apart holds in
-    (h.0, h.1, (inr (omega (arith, h.2, c.capacity-end.ensures, c.loop-test.false)), h.3))
+    (h.0, h.1, h.2, h.3, (h.4, inr (omega (arith, h.5, c.capacity-end.ensures, c.loop-test.false)), h.6))

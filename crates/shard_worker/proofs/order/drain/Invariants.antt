@@ -1,6 +1,7 @@
 use Rattle.std.proofs.Common.{◌≡◌, ◌≢◌, ◌++◌, ℕ, List, length, false, true}
 use Rattle.otlp_types.specs.declared.arrival.Item.{Item}
 use Rattle.drop_ledger.specs.Places.{TallyState}
+use Rattle.lane_queue.specs.declared.calls.Call.{Call}
 use Rattle.lane_queue.specs.Ends.{queues}
 use Rattle.lane_queue.specs.Merges.{of}
 use Rattle.policy_tree.specs.Tree.{limiters}
@@ -9,7 +10,7 @@ use Rattle.policy_eval.specs.Meaning.{knows}
 use Rattle.journal_theory.specs.Journal.{Entry}
 use Rattle.shard_core.specs.Held.{has_due, is_finished, settings}
 use Rattle.shard_worker.specs.Work.{items}
-use Rattle.shard_worker.specs.Turns.{HoldsBack, IsOf}
+use Rattle.shard_worker.specs.Turns.{HoldsBack, IsCalled, AreAt, IsOf}
 use Rattle.shard_worker.proofs.order.drain.Given as goal
 
 abbrev pub invariant-loop : goal.invariant-loop
@@ -19,5 +20,5 @@ invariant-loop g l = (has_due l.turns.shard ≡ false) × (is_finished l.turns.s
     × ((node : ℕ) → g.RateLimits.Limiter.has_node l.turns.limiter node ≡ g.RateLimits.Limiter.has_node l.fn.turns.limiter node)
     × ((first : g.row.RateLimits.Denot) (before : TallyState) (earlier : List (ℕ × Entry)) (at : ℕ) (held : Item) → at ≢ l.place
     → HoldsBack g.RateLimits.Limiter.asks first (settings l.fn.turns.shard) l.fn.receiver.ends before l.fn.turns.shard l.fn.turns.sender.items l.fn.turns.tally l.fn.turns.limiter earlier at held
-    → (drained : List (ℕ × Entry)) × IsOf l.place drained × (length (of l.place (items drained)) ≡ l.counter)
+    → (drained : List (ℕ × Entry)) × (calls : List Call) × IsOf l.place drained × AreAt l.place calls × IsCalled l.fn.receiver.calls l.receiver.calls drained calls × (length (of l.place (items drained)) ≡ l.counter)
     × HoldsBack g.RateLimits.Limiter.asks first (settings l.fn.turns.shard) l.receiver.ends before l.turns.shard l.turns.sender.items l.turns.tally l.turns.limiter (earlier ++ drained) at held)

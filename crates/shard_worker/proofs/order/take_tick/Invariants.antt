@@ -1,14 +1,16 @@
-use Rattle.std.proofs.Common.{◌≡◌, ◌≢◌, ◌<◌, ◌++◌, ℕ, List, false, true}
+use Rattle.std.proofs.Common.{◌≡◌, ◌≢◌, ◌<◌, ◌++◌, ℕ, List, [], false, true}
 use Rattle.otlp_types.specs.declared.arrival.Item.TheVariants.{Tick}
 use Rattle.drop_ledger.specs.Places.{TallyState}
+use Rattle.lane_queue.specs.declared.calls.Call.{Call}
 use Rattle.lane_queue.specs.Ends.{queues}
+use Rattle.lane_queue.specs.Merges.{of}
 use Rattle.policy_tree.specs.Tree.{limiters}
 use Rattle.policy_tree.specs.Meaning.{meaning}
 use Rattle.policy_eval.specs.Meaning.{knows}
 use Rattle.journal_theory.specs.Journal.{Entry}
 use Rattle.shard_core.specs.Held.{has_due, is_finished, settings}
-use Rattle.shard_worker.specs.Work.{IsBehind}
-use Rattle.shard_worker.specs.Turns.{HoldsBack}
+use Rattle.shard_worker.specs.Work.{items, IsBehind}
+use Rattle.shard_worker.specs.Turns.{HoldsBack, IsCalled}
 use Rattle.shard_worker.proofs.order.take_tick.Given as goal
 
 abbrev pub invariant-loop-other : goal.invariant-loop-other
@@ -18,5 +20,6 @@ invariant-loop-other g l = (has_due l.turns.shard ≡ false) × (is_finished l.t
     × ((node : ℕ) → g.RateLimits.Limiter.has_node l.turns.limiter node ≡ g.RateLimits.Limiter.has_node l.fn.turns.limiter node)
     × ((first : g.row.RateLimits.Denot) (before : TallyState) (earlier : List (ℕ × Entry)) →
     HoldsBack g.RateLimits.Limiter.asks first (settings l.fn.turns.shard) l.fn.receiver.ends before l.fn.turns.shard l.fn.turns.sender.items l.fn.turns.tally l.fn.turns.limiter earlier l.place (Tick l.moment)
-    → (drained : List (ℕ × Entry)) × ((k : ℕ) → k < l.other → k ≢ l.place → IsBehind g.QueueRoom.Room.capacity earlier drained k)
+    → (drained : List (ℕ × Entry)) × (calls : List Call) × (of l.place (items drained) ≡ []) × IsCalled l.fn.receiver.calls l.receiver.calls drained calls
+    × ((k : ℕ) → k < l.other → k ≢ l.place → IsBehind g.QueueRoom.Room.capacity earlier drained calls k)
     × HoldsBack g.RateLimits.Limiter.asks first (settings l.fn.turns.shard) l.receiver.ends before l.turns.shard l.turns.sender.items l.turns.tally l.turns.limiter (earlier ++ drained) l.place (Tick l.moment))

@@ -1,7 +1,7 @@
 use Rattle.std.proofs.Common.{sym, arith}
 use Rattle.std.proofs.lemmas.Option.{slice_get_within}
 use Rattle.shard_core.proofs.AllBut.{all_but_set}
-use Rattle.shard_core.proofs.shard.all_but.Goals as goal
+use Rattle.shard_core.proofs.ends.all_but.Goals as goal
 
 pub returns : goal.returns
 returns c =

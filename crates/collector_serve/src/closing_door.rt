@@ -1,0 +1,175 @@
+//! The thread that answers clients who connect as the collector closes.
+use crate::charge::Charge;
+use crate::stop_mark::Closer;
+use http_lane::{HasStopMark, stopping_text};
+use lane_driver::Traffic;
+use std::alloc::Global;
+use std::io::{ErrorKind, Read, Write};
+use std::net::{Shutdown, TcpListener, TcpStream};
+use std::sync::{Arc, Wait};
+use std::thread::{JoinHandle, Threads};
+use std::time::{Clock, Duration};
+use std::{io, thread};
+
+/// So long lies between two looks whether the collector closes, and between two looks at those who connected once it
+/// does, in milliseconds.
+const PAUSE: u64 = 100;
+
+const CLOSING_PAUSE: u64 = 20;
+
+/// A client of whom nothing came is answered at this look, and none is waited for beyond that one: a fifth of a second,
+/// and a second.
+const ANSWER_LOOKS: u32 = 10;
+
+const MOST_LOOKS: u32 = 50;
+
+/// So many pieces of 4,096 bytes are read of a client at a look at most, and so many clients are taken.
+const MOST_AT_ONCE: u32 = 256;
+
+/// A client who connected as the collector closes.
+#[derive(Drop)]
+struct LateClient {
+    stream: TcpStream,
+    looks: u32,
+    is_answered: bool,
+}
+
+/// What came of a client at a look.
+#[derive(Clone, Copy, PartialEq, Eq)]
+enum Came {
+    Nothing,
+    Bytes,
+    End,
+}
+
+impl LateClient {
+    /// Reads what is there, answers once something came or it was waited for long enough, and says whether it is waited
+    /// on: what a client still sends is read, so that the answer isn't taken back.
+    fn look(&mut self, text: &str, traffic: &Traffic) -> bool {
+        self.looks = self.looks.saturating_add(1);
+        let came = self.read_all(traffic);
+        if !self.is_answered && (came != Came::Nothing || self.looks >= ANSWER_LOOKS) {
+            self.is_answered = true;
+            if self.stream.write_all(text.as_bytes()).is_err() {
+                return false;
+            }
+            traffic.went(text.as_bytes());
+            if self.stream.shutdown(Shutdown::Write).is_err() {
+                return false;
+            }
+        }
+        came != Came::End && self.looks < MOST_LOOKS
+    }
+
+    /// Reads what is there.
+    fn read_all(&mut self, traffic: &Traffic) -> Came {
+        let mut piece = [0; 4096];
+        let mut came = Came::Nothing;
+        for _ in 0..MOST_AT_ONCE {
+            match self.stream.read(&mut piece) {
+                Ok(0) => return Came::End,
+                Ok(len) => {
+                    traffic.came(len);
+                    came = Came::Bytes;
+                }
+                Err(error) if error.kind() == ErrorKind::WouldBlock => return came,
+                Err(error) if error.kind() == ErrorKind::Interrupted => {}
+                Err(_) => return Came::End,
+            }
+        }
+        came
+    }
+}
+
+/// Answers 503 to clients who connect from the mark to stop on, beside the lanes, until the run is over and nobody
+/// waits. `None`: there was no thread for it.
+#[derive(Drop)]
+pub struct ClosingDoor {
+    thread: Option<JoinHandle<()>>,
+}
+
+impl ClosingDoor {
+    /// Stands at the listener of requests, which doesn't block.
+    pub fn start<R: Threads + Wait + Clock + Copy + Send + 'static>(
+        rt: &R,
+        alloc: Global,
+        listener: &TcpListener,
+        charge: Arc<Charge, Global>,
+    ) -> io::Result<Self> {
+        let listener = listener.try_clone()?;
+        let own = *rt;
+        let thread = thread::spawn(rt, move || stand(&own, alloc, &listener, &charge))?;
+        Ok(ClosingDoor {
+            thread: Some(thread),
+        })
+    }
+
+    /// The run is over: waits until those who connected are answered, for a second or two at most.
+    pub fn end<R: Threads + Wait>(self, rt: &R, charge: &Charge) {
+        charge.over.set_by(Closer::Run);
+        let ClosingDoor { thread } = self;
+        if let Some(thread) = thread {
+            thread.join(rt);
+        }
+    }
+}
+
+/// Looks again and again, until the run is over.
+fn stand<R: Wait + Clock>(rt: &R, alloc: Global, listener: &TcpListener, charge: &Charge) {
+    let Ok(text) = stopping_text(alloc) else {
+        return;
+    };
+    let mut clients = Vec::new(alloc);
+    let mut last_looks: u32 = 0;
+    for _ in rt.forever() {
+        let is_over = charge.over.is_set();
+        if !is_over && !charge.stop.is_set() {
+            thread::sleep(rt, Duration::from_millis(PAUSE));
+            continue;
+        }
+        let have_come = take_all(listener, &mut clients);
+        look_at_all(&mut clients, text.as_str(), &charge.loads.traffic);
+        if is_over {
+            last_looks = last_looks.saturating_add(1);
+            if last_looks > MOST_LOOKS || clients.is_empty() && !have_come {
+                return;
+            }
+        }
+        thread::sleep(rt, Duration::from_millis(CLOSING_PAUSE));
+    }
+}
+
+/// Takes all who wait, and says whether somebody did.
+fn take_all(listener: &TcpListener, clients: &mut Vec<LateClient>) -> bool {
+    let mut have_come = false;
+    for _ in 0..MOST_AT_ONCE {
+        let Ok((stream, _)) = listener.accept() else {
+            return have_come;
+        };
+        have_come = true;
+        if stream.set_nonblocking(true).is_ok() {
+            // One for whom there is no memory is let go.
+            let _ = clients.push(LateClient {
+                stream,
+                looks: 0,
+                is_answered: false,
+            });
+        }
+    }
+    have_come
+}
+
+/// Looks at each, and lets those go who are done.
+fn look_at_all(clients: &mut Vec<LateClient>, text: &str, traffic: &Traffic) {
+    let mut at: usize = 0;
+    for _ in 0..clients.len() {
+        let Some(client) = clients.get_mut(at) else {
+            return;
+        };
+        if client.look(text, traffic) {
+            at = at.saturating_add(1);
+        } else if at < clients.len() {
+            let _ = clients.swap_remove(at);
+        }
+    }
+}
