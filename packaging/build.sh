@@ -35,7 +35,7 @@ mv "$tree/pages/tsc.1" "$tree/pages/conchpewter.1"
 "$here/configuration.sh" > "$tree/serve.toml"
 # The unit of further instances, tsc@NAME, is that of the service with other names.
 unit=$tree/debian/conchpewter.tsc.service
-sed -e 's|/serve\.toml|/%i.toml|g; s|traces\.jsonl|%i.jsonl|; s/^RuntimeDirectory=tsc$/&-%i/; s/^User=tsc$/&-%i/; s|^Description=.*|& (%i)|; s|/run/tsc\.|/run/tsc-NAME.|' \
+sed -e 's|/serve\.toml|/%i.toml|g; s|traces\.jsonl|%i.jsonl|; s/^RuntimeDirectory=tsc$/&-%i/; s|^Description=.*|& (%i)|; s|/run/tsc\.|/run/tsc-NAME.|' \
     "$unit" > "$tree/debian/conchpewter@.tsc.service"
 install -m 755 "$program" "$tree/conchpewter"
 "$here/pages.py" --changelog "$revision" > "$tree/debian/changelog"

@@ -3,7 +3,7 @@
 -- shows the definitions on worked cases.
 use Rattle.std.specs.Prelude.{◌≡◌, refl, codes, true, false, Err}
 use Rattle.script_session.specs.declared.fault.ReplayFault.TheVariants.{CounterOverflow as Overflows, Fault}
-use Rattle.collector_main.specs.declared.program.Outcome.TheVariants.{CounterOverflow, Script}
+use Rattle.collector_main.specs.declared.program.Outcome.TheVariants.{CannotWrite, CounterOverflow, Script}
 use Rattle.collector_main.specs.Ending.{text_of}
 use Rattle.collector_main.specs.Outcomes.{outcome_of, exit_status}
 
@@ -19,6 +19,13 @@ overflow_status = refl
 
 pub overflow_unwritten : exit_status CounterOverflow false ≡ 7
 overflow_unwritten = refl
+
+-- an output's file that can't be opened
+pub unopened_text : text_of CannotWrite ≡ codes "tsc: cannot write\n"
+unopened_text = refl
+
+pub unopened_status : exit_status CannotWrite true ≡ 1
+unopened_status = refl
 
 -- a reader that fails in a script's second line
 pub failing_reader : outcome_of (Err (Fault 2)) ≡ Script 2

@@ -74,7 +74,7 @@ filed-runs course config outcome before after read unread same ran (inr (sent, i
 
 pub Serves-files : (course : Course) (config : Config) (outcome : Outcome) → IsConfigOf course.file config → writes_file config ≡ true → course.unread_after ≡ course.unread
     → FilesTo config course.taken course.taken_after outcome → Serves course outcome
-Serves-files course config outcome read file unread to = filed-runs course config outcome to.1 to.2 read unread to.0 (filed course config outcome read file unread to) to.3
+Serves-files course config outcome read file unread to = filed-runs course config outcome to.1.0 to.1.1 read unread to.0 (filed course config outcome read file unread to) to.1.2
 
 -- where a run by a configuration came to, whether or not its lines went to a file
 pub Serves-to : (course : Course) (config : Config) (outcome : Outcome) (file : Bool) → writes_file config ≡ file → IsConfigOf course.file config → course.unread_after ≡ course.unread
@@ -88,4 +88,4 @@ pub Serves-starved : (course : Course) (config : Config) (is : Bool) → prints 
 Serves-starved course config is printed read unread same =
     Serves-to course config (served_to (Err NoMemory)) (writes_file config) refl read unread
     (λ here. subst (λ (after : Option (List ℕ)). RunsTo config course.taken after (served_to (Err NoMemory))) (sym same) (runs-starved config is course.taken printed))
-    (λ file. (same, None, None, runs-starved config is None printed))
+    (λ file. (same, (None, None, runs-starved config is None printed)))
