@@ -249,7 +249,7 @@ fn look_at_output<W: Write + Drop, R: Clock>(
     }
     if let Some((_, seen)) = known.failing {
         let fields = [
-            output_of(charge),
+            text("what", charge.output.as_str()),
             number("failing_ms", now.saturating_sub(seen)),
         ];
         say(
@@ -264,31 +264,37 @@ fn look_at_output<W: Write + Drop, R: Clock>(
     }
     if let Some((_, code)) = failing {
         let cause = cause_of(alloc, code);
-        let fields = [
-            output_of(charge),
-            LogField {
-                name: "cause",
-                value: FieldValue::Text(cause.as_str()),
-            },
-        ];
-        say(
-            rt,
-            alloc,
-            events,
-            charge,
-            Level::Error,
-            "output_failing",
-            &fields,
-        );
+        let what = charge.output.as_str();
+        say_failing(rt, alloc, events, charge, what, cause.as_str());
     }
     known.failing = since.map(|since| (since, now));
 }
 
-/// The output's path; nothing: the standard output.
-fn output_of(charge: &Charge) -> LogField<'_> {
+/// Says which output fails (its path; nothing: the standard output), and why.
+fn say_failing<'v, W: Write + Drop, R: Clock>(
+    rt: &R,
+    alloc: Global,
+    events: &mut EventWriter<W>,
+    charge: &Charge,
+    what: &'v str,
+    cause: &'v str,
+) {
+    let fields = [text("what", what), text("cause", cause)];
+    say(
+        rt,
+        alloc,
+        events,
+        charge,
+        Level::Error,
+        "output_failing",
+        &fields,
+    );
+}
+
+fn text<'v>(name: &'static str, text: &'v str) -> LogField<'v> {
     LogField {
-        name: "what",
-        value: FieldValue::Text(charge.output.as_str()),
+        name,
+        value: FieldValue::Text(text),
     }
 }
 
@@ -341,10 +347,7 @@ fn say_closing<W: Write + Drop, R: Clock>(
     charge: &Charge,
     closer: Closer,
 ) {
-    let by = LogField {
-        name: "by",
-        value: FieldValue::Text(closer.name()),
-    };
+    let by = text("by", closer.name());
     let fields = [by, number("spans_waiting", charge.board.waiting())];
     say(rt, alloc, events, charge, Level::Info, "closing", &fields);
 }
