@@ -113,9 +113,8 @@ def is_logged(start):
         want("the events", [name for name, _ in events if name != "closing"], ["starting", "settings", "listening"] + ["queue_full"] * (numbers[3] > 0) + ["closed"])
         fields = dict(events)
         want("the configuration", os.path.basename(fields["starting"]["configuration"]), "config.toml")
-        # The address that is listened at, the log's form where it isn't text, and what a collector of checks sets.
-        changed = {"listen", "queue_capacity", *({"log"} if form == "json" else ()), *(line.split(" = ")[0] for line in ALL.splitlines() if re.match(r"\w+ = ", line))}
-        want("what isn't default", set(fields["settings"]["not_default"].split()), {it for it in changed if it not in ("name", "type")})
+        changed = {"listen", "queue_capacity"} | ({"log"} if form == "json" else set())
+        want("what isn't default", set(fields["settings"]["not_default"].split()), changed)
         want("the address", fields["listening"]["address"], f"127.0.0.1:{collector.port}")
         told = [fields["closed"][it] for it in "received handed invalid_id queue_full no_memory evicted not_sampled late_not_sampled exporter_down".split()]
         want("the report", [int(it) for it in told], numbers)
