@@ -2,8 +2,6 @@
 -- For what `serve_by` ensures.
 use Rattle.std.proofs.Common.{◌≡◌, ℕ, Bool, List, Option, Result, Ok, Err, None, inl, inr, refl, sym, subst, true, false}
 use Rattle.drop_ledger.specs.declared.report.Report.{Report}
-use Rattle.pipeline.specs.Outcome.{SinkAnswers}
-use Rattle.pipeline.specs.Promise.{CoreRunTells}
 use Rattle.pipeline.specs.declared.fault.ServeFault.{ServeFault}
 use Rattle.pipeline.specs.declared.fault.ServeFault.TheVariants.{NoMemory, CounterOverflow, SinkDown}
 use Rattle.tsc_config.specs.declared.config.Config.{Config}
