@@ -38,7 +38,8 @@ is_shut_in() {
     awk -v it="$exposed" 'BEGIN { exit !(it != "" && it <= 2.0) }'
 }
 
-# The package as it was under its former name, tsc: the program by that name, a stop command in place of the launcher, and another end of purging.
+# The package as it was under its former name, tsc: the program by that name, a stop command in place of the launcher, a dynamic user and an output that
+# only the manager opens, and another end of purging.
 make_former() {
     local former=$room/former
     dpkg-deb -R "$room"/packages/conchpewter_*-2_amd64.deb "$former"
@@ -48,9 +49,11 @@ make_former() {
         "$former"/usr/share/bash-completion "$former"/DEBIAN/triggers "$former"/DEBIAN/preinst "$former"/DEBIAN/md5sums
     cp "$here/../examples/serve.toml" "$former/etc/tsc/serve.toml"
     sed -i -e 's/^Package: .*/Package: tsc/; s/^Version: \(.*\)-2$/Version: \1-1/; /^\(Breaks\|Replaces\):/d' "$former/DEBIAN/control"
-    sed -i '/triggered/,/^fi/d; /^# Further instances/,$d' "$former/DEBIAN/postinst"
+    sed -i -e '/triggered/,/^fi/d; /^# Further instances/,$d; /^    systemd-sysusers/d; /^    for it in/,/^    done$/d; s/chown tsc:adm/chown root:adm/' \
+        -e '/dh_installsysusers/,/^# End/d' "$former/DEBIAN/postinst"
     sed -i '/^if \[ "$1" = remove \]/,/^fi/d' "$former/DEBIAN/prerm"
     sed -i -e 's|^ExecStart=.*|ExecStart=/usr/bin/tsc serve /etc/tsc/serve.toml|; s|conchpewter validate|tsc validate|; /^ExecReload=/d' \
+        -e 's|^User=tsc$|&\nDynamicUser=yes|; /^ReadWritePaths=/d; /^ExecStartPre=+.*chown/d' \
         -e 's|^TimeoutStopSec=|ExecStop=-/bin/sh -c "exec tsc close /etc/tsc/serve.toml >\&2"\nKillSignal=SIGCONT\n&|' "$former/lib/systemd/system/tsc.service"
     mkdir "$room/packages/former"
     dpkg-deb --root-owner-group -b "$former" "$room/packages/former" > /dev/null
