@@ -8,12 +8,18 @@ use denote.Param.Send.{IsSend, IsSync, sendable, shr_send, recorded_send, struct
 use Rattle.std.proofs.Crossing as crossing
 use Rattle.std.specs.contracts.alloc.Global as Heap
 use Rattle.std.specs.contracts.impls.GlobalAllocator.TheImpl.{ghosts}
+use Rattle.std.specs.contracts.sync.Arc as Arc
 use Rattle.std.specs.contracts.vec.Vec as Vec
 use Rattle.drop_ledger.proofs.report.Report.TheSendSync as report_sent
 use Rattle.drop_ledger.specs.contracts.report.Report as report
 use Rattle.lane_queue.proofs.ends.Sender.TheSendSync as sender_sent
-use Rattle.lane_queue.proofs.receiver.Receiver.TheSendSync as receiver_sent
+use Rattle.lane_queue.proofs.bell.Bell.TheSendSync as bell_sent
+use Rattle.lane_queue.proofs.calls.CallLog.TheLaws.TheKnot as calls_knot
+use Rattle.lane_queue.proofs.ends.Outlet.TheSendSync as outlet_sent
 use Rattle.lane_queue.proofs.sender_port.SenderPort.TheSendSync as port_sent
+use Rattle.lane_queue.specs.contracts.bell.Bell as bell
+use Rattle.lane_queue.specs.contracts.calls.CallLog as calls
+use Rattle.lane_queue.specs.contracts.ends.Outlet as outlet
 use Rattle.lane_queue.specs.contracts.ends.Sender as sender
 use Rattle.lane_queue.specs.contracts.receiver.Receiver as receiver
 use Rattle.lane_queue.specs.contracts.sender_port.SenderPort as port
@@ -40,12 +46,22 @@ lent_field a T y = shr_send a.mir a.lft T y
 report_field : IsSend report.the_field.row
 report_field = report_sent.the_send
 
+bell_send : IsSend (Arc.the_row bell.the_row Heap.the_row ghosts)
+bell_send = crossing.Arc-send bell.the_row bell_sent.the_send bell_sent.the_sync
+
+-- a log of calls holds what owns nothing
+log_send : IsSend calls.the_row
+log_send = search (sendable, crossing.crosses, calls_knot.send-CallLog) depth 20
+
 module _ (C : RattleType) (g : Ghosts C.Denot) where
   pub ends_send : IsSend (Vec.the_row (sender.the_row item.the_row C g) Heap.the_row ghosts)
   ends_send = crossing.Vec-send (sender.the_row item.the_row C g) (sender_sent.the_send item.the_row C g item_send)
 
+  outlets_send : IsSend (Vec.the_row (outlet.the_row item.the_row C g) Heap.the_row ghosts)
+  outlets_send = crossing.Vec-send (outlet.the_row item.the_row C g) (outlet_sent.the_send item.the_row C g item_send)
+
   receiver_field : IsSend (receiver.the_field item.the_row C g).row
-  receiver_field = receiver_sent.the_send item.the_row C g item_send
+  receiver_field = search (sendable, outlets_send, bell_send, log_send) depth 20
 
   sender_field : IsSend (sender.the_field shipment.the_row C g).row
   sender_field = sender_sent.the_send shipment.the_row C g shipment_send

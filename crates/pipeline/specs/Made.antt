@@ -1,5 +1,5 @@
 -- What the threads of a run are given, and the lists into which what they leave is gathered.
-use Rattle.std.specs.Prelude.{◌≡◌, ◌<◌, ◌≤◌, ℕ, ◌+◌, true, false, List, [], ◌∷◌, ◌++◌, length, All}
+use Rattle.std.specs.Prelude.{◌≡◌, ℕ, ◌+◌, true, false, List, [], ◌∷◌, ◌++◌, length, All}
 use Rattle.otlp_types.specs.declared.arrival.Item.{Item}
 use Rattle.otlp_types.specs.declared.arrival.Shipment.{Shipment}
 use Rattle.lane_queue.specs.Ends.{EndState, ReceiverState, AreTied, IsNew}

@@ -1,5 +1,5 @@
 -- What a run of the pipeline promises: what its threads did is a run of the core.
-use Rattle.std.specs.Prelude.{◌≡◌, ℕ, ◌+◌, ◌/◌, ◌<◌, Bool, false, List, [], Option, Some, Result, Ok, Err}
+use Rattle.std.specs.Prelude.{◌≡◌, ℕ, ◌+◌, ◌<◌, Bool, false, List, Option, Result, Ok, Err}
 use Rattle.drop_ledger.specs.Sums.{Fits}
 use Rattle.drop_ledger.specs.declared.report.Report.{Report}
 use Rattle.otlp_types.specs.declared.arrival.Arrival.{Arrival}
@@ -7,7 +7,7 @@ use Rattle.lane_worker.specs.Serving.{LaneAt}
 use Rattle.policy_tree.specs.declared.limiter_node.LimiterNode.{LimiterNode}
 use Rattle.policy_tree.specs.Meaning.{meaning}
 use Rattle.policy_tree.specs.Tree.{limiters}
-use Rattle.shard_core.specs.Held.{Held, StandsFor, has_due, is_finished, settings}
+use Rattle.shard_core.specs.Held.{Held, settings}
 use Rattle.span_exporter.specs.Exports.{ExporterState}
 use Rattle.span_sink.specs.LineSinks.{LineSinkState, up_state, down_state}
 use Rattle.config_shards.specs.Shards.{settings_by}
