@@ -39,10 +39,10 @@ pub returns-in-Help : goal.returns-in-Help
 returns-in-Help g c =
     let arguments = map string_bytes c.args.arguments.now in
     let asked = subst (λ command. AsksFor arguments command) c.in-Help.is c.in-Some.ensures.some in
-    (Err Unreadable, (Help, asked, (refl, (refl, refl))))
+    (Err (Unreadable Other), (Help, asked, (refl, (refl, refl))))
 
 pub returns-in-Version : goal.returns-in-Version
 returns-in-Version g c =
     let arguments = map string_bytes c.args.arguments.now in
     let asked = subst (λ command. AsksFor arguments command) c.in-Version.is c.in-Some.ensures.some in
-    (Err Unreadable, (Version, asked, (refl, (refl, refl))))
+    (Err (Unreadable Other), (Version, asked, (refl, (refl, refl))))
