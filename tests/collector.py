@@ -4,7 +4,6 @@ import json
 import os
 import re
 import resource
-import signal
 import socket
 import subprocess
 import sys
@@ -203,7 +202,6 @@ class Starter:
 def run_checks(programs, checks):
     """Runs each check on each program, tells those that fail, and ends with 'N passed, M failed' and the status."""
     passed = failed = 0
-    signal.signal(signal.SIGPIPE, signal.SIG_DFL)
     for program in programs:
         for check in checks:
             start = Starter(program)

@@ -160,7 +160,7 @@ def listens_everywhere(start):
         with open(config, "w", encoding="utf-8") as file:
             file.write(f'listen = ":{port}"\nadmin = ":{admin}"\n' + ALL)
         ran = subprocess.Popen([start.program, "serve", config], stdin=subprocess.DEVNULL, stdout=subprocess.PIPE, stderr=subprocess.PIPE)
-        want("the second event", [ran.stderr.readline().split()[2] for _ in range(2)][1], b"listening")
+        want("the first events", [ran.stderr.readline().split()[2] for _ in range(3)], [b"starting", b"settings", b"listening"])
         hosts = ["127.0.0.1", "127.0.0.2"] + (["::1"] if os.path.exists("/proc/net/if_inet6") and "00000000000000000000000000000001" in open("/proc/net/if_inet6").read() else [])
         for host in hosts:
             for where in (port, admin):
