@@ -82,7 +82,7 @@ def main():
     others = (span_bytes, seconds, float(words[3]) if len(words) > 3 else 10, len(words) > 4)
     members, of = members_for(rate, *others)
     if members > 1:
-        print(f"# {members} collectors, each for {rate / members:,.0f} spans a second in the mean; plan for the fullest (docs/OPERATING.md, More than one machine)")
+        print(f"# {members} collectors, each for {rate / members:,.0f} spans a second in the mean; plan for the fullest (docs/operating/SCALING.md)")
     print(f"# {of['processors']:.2f} processors and {of['memory']:,.0f} MiB; of a service MemoryMax={of['most']}M")
     print(f"decision_wait_ms = {seconds * 1000:.0f}")
     for key in ("lanes", "shards", "num_traces", "queue_capacity", "export_capacity"):

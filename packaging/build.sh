@@ -27,6 +27,7 @@ trap 'rm -rf "$room"' EXIT
 tree=$room/conchpewter
 mkdir -p "$tree" "$folder"
 cp -R "$here/debian" "$here/pages" "$top/docs" "$top/examples" "$top/README.md" "$top/CHANGELOG.md" "$tree"
+rm "$tree/docs/site.sh"
 cp "$here/launcher/tsc-run.c" "$tree"
 mkdir "$tree/import"
 cp "$here"/import/*.py "$here/import/tsc-import" "$tree/import"

@@ -1,8 +1,8 @@
 #!/usr/bin/env python3
-"""Writes the manual pages, the completion for bash and Debian's changelog of the package from what stands elsewhere: the tables and texts of
-README.md and docs/OPERATING.md, what `tsc help` prints (tests/help.txt), examples/errors.toml and CHANGELOG.md.
+"""Writes docs/CONFIGURATION.md (by packaging/keys.py), the manual pages, the completion for bash and Debian's changelog of the package from what stands
+elsewhere: README.md, the pages of docs, what `tsc help` prints (tests/help.txt), examples/errors.toml and CHANGELOG.md.
 
-usage: pages.py                       (writes packaging/pages)
+usage: pages.py                       (writes docs/CONFIGURATION.md and packaging/pages)
        pages.py --check               (prints a line for each page that isn't up to date, and ends with status 1 where there is one)
        pages.py --changelog REVISION  (prints Debian's changelog, for such a revision of the package)"""
 
@@ -10,6 +10,8 @@ import re
 import sys
 from datetime import datetime, timezone
 from pathlib import Path
+
+from keys import configuration
 
 TOP = Path(__file__).resolve().parent.parent
 PAGES = TOP / "packaging" / "pages"
@@ -22,11 +24,13 @@ def text_of(name):
 
 
 def section(text, title):
-    """What stands under a heading of a page, up to the next one."""
-    found = re.search(rf"^## {re.escape(title)}\n(.*?)(?=^## |\Z)", text, re.M | re.S)
+    """What stands under a heading of a page, up to the next one of its rank or a higher one."""
+    found = re.search(rf"^(##+) {re.escape(title)}\n", text, re.M)
     if not found:
         raise SystemExit(f"pages.py: no section {title!r}")
-    return found[1].strip()
+    rest = text[found.end():]
+    end = re.search(rf"^#{{1,{len(found[1])}}} ", rest, re.M)
+    return (rest[: end.start()] if end else rest).strip()
 
 
 def roff(text):
@@ -71,7 +75,10 @@ def body(text):
     out = []
     for block in re.split(r"\n\n+", text):
         lines = block.split("\n")
-        if lines[0].startswith("|"):
+        if re.match("###* ", lines[0]):
+            out += [".SS " + roff(lines[0].lstrip("# ").replace("`", ""))]
+            out += body("\n".join(lines[1:]).strip()) if lines[1:] else []
+        elif lines[0].startswith("|"):
             out += table(lines)
         elif all(it.startswith("    ") for it in lines):
             out += [".PP", ".RS 4", ".nf", *[roff(it[4:]) for it in lines], ".fi", ".RE"]
@@ -116,12 +123,10 @@ def page(name, number, title, *parts):
 
 def command_page():
     """tsc(1)."""
-    readme, operating = text_of("README.md"), text_of("docs/OPERATING.md")
-    what = readme.split("\n\n")[1].split("\n")
+    faults, metrics = text_of("docs/FAULTS.md"), text_of("docs/operating/METRICS.md")
+    what = text_of("README.md").split("\n\n")[1].split("\n")
     named = [it for command, says in commands() for it in (".TP", bold(f"tsc {command}"), roff(says) + ".")]
     usage = [it for command, _ in commands() for it in (bold(f"tsc {command}"), ".br")][:-1]
-    scripts = section(readme, "Scripts and exit statuses")
-    charge = section(operating, "For those in charge")
     files = (
         "| File | What it is |\n|---|---|\n| `/etc/tsc/serve.toml` | the configuration of the service `tsc` |\n"
         "| `/var/log/tsc/traces.jsonl` | what the service keeps, and its report at each close |"
@@ -131,10 +136,11 @@ def command_page():
         [".SH NAME", "tsc, conchpewter \\- a tail\\-sampling trace collector", ".SH SYNOPSIS"], usage,
         [".SH DESCRIPTION"], [roff(it) for it in what],
         [".SH COMMANDS"], named,
-        [".SH SCRIPTS"], body(scripts.split("\n\n")[0]),
-        [".SH EXIT STATUS"], body(next(it for it in scripts.split("\n\n") if it.startswith("| Status"))),
-        [".SH THOSE IN CHARGE"], body(charge.split("`examples/neighbours/prometheus.yml`")[0].strip()),
-        [".SH THE REPORT"], body(section(operating, "What the report tells")),
+        [".SH SCRIPTS"], body(section(faults, "Scripts")),
+        [".SH EXIT STATUS"], body(section(faults, "Exit statuses")),
+        [".SH THE REPORT"], body(section(faults, "The report")),
+        [".SH THOSE IN CHARGE"], body(section(metrics, "For those in charge")),
+        [".SH THE NUMBERS"], body(section(metrics, "The numbers")),
         [".SH FILES"], table(files.split("\n")),
         [".SH SEE ALSO", ".BR tsc.toml (5),", ".BR tsc\\-run (1),", ".BR systemctl (1)"],
     )
@@ -142,7 +148,7 @@ def command_page():
 
 def launcher_page():
     """tsc-run(1)."""
-    signals = section(text_of("docs/OPERATING.md"), "Signals")
+    signals = section(text_of("docs/operating/RUN.md"), "Signals")
     usage = [bold("tsc-run [--program PATH] CONFIG"), ".br", bold("tsc-run --health ADDRESS")]
     return page(
         "TSC-RUN", 1, "User commands",
@@ -154,19 +160,19 @@ def launcher_page():
 
 def configuration_page():
     """tsc.toml(5)."""
-    readme = text_of("README.md")
-    keys = section(readme, "Configuration").split("The tail_sampling processor's policy types")[0].strip()
-    keys = without(keys, "A TOML file;")
-    faults = section(readme, "Scripts and exit statuses").split("`tsc: configuration refused: N` names")[1]
+    policies = text_of("docs/POLICIES.md")
+    first, types = configuration().split("## Types of policies", 1)
+    keys = first[first.index("A key marked *off*"):]
+    faults = section(text_of("docs/FAULTS.md"), "Faults of a configuration")
     example = "\n".join("    " + it for it in text_of("examples/errors.toml").strip().split("\n"))
-    first, types = keys.split("| Type | Settings |", 1)
     return page(
         "TSC.TOML", 5, "File formats",
         [".SH NAME", "tsc.toml \\- the configuration of the trace collector tsc", ".SH DESCRIPTION"],
         body("A TOML file that `tsc serve`, `tsc replay`, `tsc validate` and `tsc close` read."),
-        [".SH KEYS"], body(first.strip()),
-        [".SH POLICIES"], body("| Type | Settings |" + types),
-        [".SH FAULTS"], body("`tsc: configuration refused: N` names" + faults),
+        [".SH KEYS"], body(keys.strip()),
+        [".SH POLICIES"], body(types.strip()),
+        body(policies[policies.index("## The decision"):].strip()),
+        [".SH FAULTS"], body(faults),
         [".SH EXAMPLE"], body(example),
         [".SH SEE ALSO", ".BR tsc (1)"],
     )
@@ -174,7 +180,7 @@ def configuration_page():
 
 def import_page():
     """tsc-import(1)."""
-    said = section(text_of("docs/OPERATING.md"), "From a Collector's configuration")
+    said = section(text_of("docs/FROM_TAIL_SAMPLING.md"), "The importer")
     return page(
         "TSC-IMPORT", 1, "User commands",
         [".SH NAME", "tsc\\-import \\- writes a Collector's configuration as one of tsc", ".SH SYNOPSIS", ".B tsc\\-import", "[OPTION].. COLLECTOR.yaml"],
@@ -229,15 +235,16 @@ def main():
         print(debian_changelog(sys.argv[2]), end="")
         return 0
     pages = {"tsc.1": command_page(), "tsc-run.1": launcher_page(), "tsc-import.1": import_page()}
-    made = {**pages, "tsc.toml.5": configuration_page(), "tsc.bash": completion()}
+    made = {PAGES / name: text for name, text in {**pages, "tsc.toml.5": configuration_page(), "tsc.bash": completion()}.items()}
+    made[TOP / "docs/CONFIGURATION.md"] = configuration()
     if sys.argv[1:] == ["--check"]:
-        stale = [it for it, text in made.items() if not (PAGES / it).exists() or (PAGES / it).read_text("utf-8") != text]
+        stale = [it for it, text in made.items() if not it.exists() or it.read_text("utf-8") != text]
         for it in stale:
-            print(f"packaging/pages/{it} isn't up to date: run packaging/pages.py")
+            print(f"{it.relative_to(TOP)} isn't up to date: run packaging/pages.py")
         return 1 if stale else 0
     PAGES.mkdir(exist_ok=True)
     for it, text in made.items():
-        (PAGES / it).write_text(text, "utf-8")
+        it.write_text(text, "utf-8")
     return 0
 
 

@@ -26,6 +26,10 @@ class Failure(Exception):
     """What a check found to be other than it must be."""
 
 
+class LeftOut(Exception):
+    """Why a check can't be made on this machine."""
+
+
 def want(what, got, expected):
     """Compares, and says what differs."""
     if got != expected:
@@ -42,6 +46,18 @@ def post(body, path="/v1/traces", method="POST", fields=()):
     head = [f"{method} {path} HTTP/1.1", "Host: collector", "Content-Type: application/json"]
     head += [f"Content-Length: {len(body)}", *fields]
     return "\r\n".join(head).encode() + b"\r\n\r\n" + body
+
+
+def is_listening(address):
+    """Whether somebody listens at the port of an address. The system is asked, since a check may count who connects."""
+    end = f":{int(address.rsplit(':', 1)[1]):04X}"
+    for path in ("/proc/net/tcp", "/proc/net/tcp6"):
+        if os.path.exists(path):
+            with open(path, encoding="utf-8") as file:
+                rows = [line.split() for line in file]
+            if any(row[3] == "0A" and row[1].endswith(end) for row in rows):
+                return True
+    return False
 
 
 class Client:
@@ -106,29 +122,41 @@ class Collector:
             self.is_quiet = log is None or log[1] == "off"
             quiet = "" if log else 'log = "off"\n'
             file.write(f'listen = "127.0.0.1:{self.port}"\n' + quiet + settings)
+        self.addresses = [f"127.0.0.1:{self.port}"] + re.findall(r'^(?:admin|metrics) = "(?!unix:)(.+)"$', settings, re.M)
+        self.errors = open(os.path.join(self.folder.name, "said"), "wb")
         self.printed = os.path.join(self.folder.name, "printed")
         self.file = open(self.printed, "wb") if output is None else None
         self.process = subprocess.Popen(
             [program, "serve", config],
             stdin=stdin,
             stdout=self.file if output is None else output,
-            stderr=subprocess.PIPE,
+            stderr=self.errors,
             env={**os.environ, **dict(surroundings)},
             preexec_fn=lambda: [resource.setrlimit(which, (most, most)) for which, most in limits],
         )
-        self.wait_for_port()
+        try:
+            self.wait_for_port()
+        except Failure:
+            self.stop()
+            raise
 
     def wait_for_port(self):
-        """Waits until it listens."""
-        for _ in range(3000):
-            if self.process.poll() is not None:
-                raise Failure(f"it ended at once, with status {self.process.returncode}")
-            try:
-                socket.create_connection(("127.0.0.1", self.port), timeout=5).close()
-                return
-            except ConnectionRefusedError:
+        """Waits until it listens at each of its addresses, and connects to the first one alone. (A socket's file has its name once it listens.)"""
+        for address in self.addresses:
+            for _ in range(3000):
+                if self.process.poll() is not None:
+                    raise Failure(f"it ended at once, with status {self.process.returncode}")
+                if is_listening(address):
+                    break
                 time.sleep(0.02)
-        raise Failure("it doesn't listen")
+            else:
+                raise Failure(f"it doesn't listen at {address}")
+        socket.create_connection(("127.0.0.1", self.port), timeout=5).close()
+
+    def says(self):
+        """What it has said on standard error so far."""
+        with open(self.errors.name, encoding="utf-8", errors="replace") as file:
+            return file.read()
 
     def client(self):
         """A new connection."""
@@ -150,7 +178,7 @@ class Collector:
     def end(self, status=0):
         """Waits for the end. Gives the span lines and the nine numbers; what it said on standard error is in `said`."""
         want("the status", self.process.wait(timeout=60), status)
-        self.said = self.process.stderr.read().decode()
+        self.said = self.says()
         if self.is_quiet:
             want("standard error", self.said, "")
         if self.file is None:
@@ -169,7 +197,7 @@ class Collector:
         if self.process.poll() is None:
             self.process.kill()
             self.process.wait()
-        self.process.stderr.close()
+        self.errors.close()
         if self.file is not None:
             self.file.close()
         self.folder.cleanup()
@@ -200,7 +228,8 @@ class Starter:
 
 
 def run_checks(programs, checks):
-    """Runs each check on each program, tells those that fail, and ends with 'N passed, M failed' and the status."""
+    """Runs each check on each program, tells those that fail and those that can't be made here, which fail, too, where CI is `true`, and ends with
+    'N passed, M failed' and the status."""
     passed = failed = 0
     for program in programs:
         for check in checks:
@@ -208,9 +237,14 @@ def run_checks(programs, checks):
             try:
                 check(start)
                 passed += 1
-            except (Failure, OSError, ValueError, subprocess.TimeoutExpired) as problem:
+            except LeftOut as why:
+                failed += os.environ.get("CI") == "true"
+                print(f"left out: {check.__module__}/{check.__name__}, since {why}", flush=True)
+            except (Failure, OSError, ValueError, LookupError, subprocess.SubprocessError) as problem:
                 failed += 1
-                print(f"{os.path.basename(program)} {check.__module__}/{check.__name__}: {problem}", flush=True)
+                print(f"{os.path.basename(program)} {check.__module__}/{check.__name__}: {str(problem) or repr(problem)}", flush=True)
+                for collector in start.started:
+                    print("".join(f"    it said: {line[:300]}\n" for line in collector.says().splitlines()[-5:]), end="", flush=True)
             finally:
                 for collector in start.started:
                     collector.stop()

@@ -4,7 +4,7 @@ it isn't 0; one name a line on standard output.
 
     tests/configurations.py FOLDER
 
-The fault of each stands in the tables, by its number in README.md, and the bounds of whole numbers in the definition (tests/settings.py); the
+The fault of each stands in the tables, by its number in docs/FAULTS.md, and the bounds of whole numbers in the definition (tests/settings.py); the
 settings that each type of policy has are those of its table (tests/tables.py). None of it is the program's answer. Of two faults the one with the
 lower number is told.
 """
@@ -86,6 +86,11 @@ LINES = [
     ("accept_gzip = 1", WRONG_TYPE),
     ('accept_gzip = "gzip"', WRONG_TYPE),
     ("accept_gzip = [true]", WRONG_TYPE),
+    ("accept_protobuf = true", TAKEN),
+    ("accept_protobuf = false", TAKEN),
+    ("accept_protobuf = 1", WRONG_TYPE),
+    ('accept_protobuf = "proto"', WRONG_TYPE),
+    ("accept_proto = true", UNKNOWN_KEY),
     ("sample_on_first_match = true", TAKEN),
     ("sample_on_first_match = false", TAKEN),
     ("sample_on_first_match = 1", WRONG_TYPE),
@@ -154,6 +159,13 @@ LINES = [
     ('export = { endpoint = "http://h/", lines = true }', TAKEN),
     ('export = { endpoint = "http://h/", lines = "true" }', WRONG_TYPE),
     ('export = { endpoint = "http://h/", lines = 1 }', WRONG_TYPE),
+    ('export = { endpoint = "http://h/", encoding = "json" }', TAKEN),
+    ('export = { endpoint = "http://h/", encoding = "proto" }', TAKEN),
+    ('export = { endpoint = "http://h/", encoding = "Proto" }', OUT_OF_RANGE),
+    ('export = { endpoint = "http://h/", encoding = "protobuf" }', OUT_OF_RANGE),
+    ('export = { endpoint = "http://h/", encoding = "" }', OUT_OF_RANGE),
+    ('export = { endpoint = "http://h/", encoding = true }', WRONG_TYPE),
+    ('encoding = "json"', UNKNOWN_KEY),
     ('export = { endpoint = "http://h/", headers = {} }', TAKEN),
     ('export = { endpoint = "http://h/", headers = { Authorization = "Bearer a.b-c" } }', TAKEN),
     ('export = { endpoint = "http://h/", headers = { X-Scope-OrgID = "tenant-1", x-y = "" } }', TAKEN),

@@ -4,7 +4,7 @@ line on standard output.
 
     tests/faulty.py FOLDER
 
-The lines are worked out by hand from OPERATING.md and the README's tables, the names of keys and types from the definitions (tests/tables.py): a line
+The lines are worked out by hand from docs/FAULTS.md and docs/CONFIGURATION.md, the names of keys and types from the definitions (tests/tables.py): a line
 for each fault, first those of keys and values in the order of those tables (the keys that there aren't first), then those of what they give, where a value with a fault counts as its key's default, and a
 policy's list that isn't there as empty; and behind the faults a line for each address that can't be one.
 """
@@ -14,9 +14,10 @@ from tables import policy_types, table_settings
 
 ALL = '{ name = "all", type = "always_sample" }'
 POLICIES = f"policies = [{ALL}]\n"
-EMPTY = "policies: a list of policies is empty (fault 7.1)"
-NO_VALUES = "policies: the values or status codes of a policy are an empty list (fault 7.6)"
-SAME_NAME = "policies: two policies of one list have the same name (fault 7.4)"
+FOLLOWS = "; it follows from another fault"
+EMPTY = f"policies: a list of policies is empty{FOLLOWS} (fault 7.1)"
+NO_VALUES = f"policies: the values or status codes of a policy are an empty list{FOLLOWS} (fault 7.6)"
+SAME_NAME = f"policies: two policies of one list have the same name{FOLLOWS} (fault 7.4)"
 TYPES = ", ".join(policy_types())
 NO_LISTENER = "listen: no address: HOST:PORT, [IPV6]:PORT or :PORT is wanted (cannot listen)"
 NO_BACKEND = "export.endpoint: no address: HOST:PORT, with a port from 1 to 65535, is wanted behind http:// (cannot send)"
@@ -44,7 +45,7 @@ ROWS = [
         "root_wait_s: no such key; `root_wait_ms` is (fault 2)",
     ]),
     ("keys of the Collector", f"block_on_overflow = true\ndrop_pending_traces_on_shutdown = true\nendpoint = \"a\"\nexpected_new_traces_per_sec = 1\nlimit_mib = 1\nmax_request_body_size = 1\n"
-     f"num_workers = 1\nsampling_strategy = \"trace-complete\"\nexport = {{ endpoint = \"http://h:1/p\", compression = \"gzip\", encoding = \"json\", retry_on_failure = {{}}, sending_queue = {{}}, timeout = 1, tls = {{}}, traces_endpoint = \"a\" }}\n{POLICIES}", [
+     f"num_workers = 1\nsampling_strategy = \"trace-complete\"\nexport = {{ endpoint = \"http://h:1/p\", compression = \"gzip\", retry_on_failure = {{}}, sending_queue = {{}}, timeout = 1, tls = {{}}, traces_endpoint = \"a\" }}\n{POLICIES}", [
         "block_on_overflow: no such key; leave it out: nothing waits for a decision (fault 2)",
         "drop_pending_traces_on_shutdown: no such key; leave it out: at the close each trace that waits is decided (fault 2)",
         "endpoint: no such key; `listen` is (fault 2)",
@@ -54,7 +55,6 @@ ROWS = [
         "num_workers: no such key; `lanes` and `shards` are (fault 2)",
         "sampling_strategy: no such key; leave it out: each trace is decided once its wait is over (fault 2)",
         "export.compression: no such key; leave it out: bodies are sent as they are (fault 2)",
-        "export.encoding: no such key; leave it out: JSON is sent (fault 2)",
         "export.retry_on_failure: no such key; `retry_initial_ms`, `retry_max_ms` and `retry_for_ms` are (fault 2)",
         "export.sending_queue: no such key; `queue_batches` is: how many batches wait (fault 2)",
         "export.timeout: no such key; `timeout_ms` is (fault 2)",
@@ -97,6 +97,8 @@ ROWS = [
         "policies: an array is wanted (fault 4)",
         EMPTY,
     ]),
+    ("bodies in protobuf, by another type and a near name", f"accept_protobuf = \"true\"\naccept_protobuff = true\n{POLICIES}", [
+        "accept_protobuff: no such key; `accept_protobuf` is (fault 2)", "accept_protobuf: true or false is wanted (fault 4)"]),
     ("texts of two", f'queue_full = "wait"\ndouble_values = "stop"\n{POLICIES}', ['queue_full: "wait" is none of partial, retry (fault 5)',
         'double_values: "stop" is none of discard, keep (fault 5)']),
     ("texts of three", f'output_fault = ""\nlog = "stderr"\n{POLICIES}', ['log: "stderr" is none of text, json, off (fault 5)', 'output_fault: "" is none of discard, stop, retry (fault 5)']),
@@ -106,11 +108,12 @@ ROWS = [
         "decision_cache.sampled_cache_size: 1000001 is not from 0 to 1000000 (fault 5)",
         "decision_cache.non_sampled_cache_size: a whole number is wanted (fault 4)",
     ]),
-    ("where lines are sent to", f"export = {{ endpoint = \"h:1/p\", timeout_ms = 0, queue_batches = 65537, headers = {{ Host = \"secret\" }}, retry = 1 }}\n{POLICIES}", [
+    ("where lines are sent to", f"export = {{ endpoint = \"h:1/p\", timeout_ms = 0, queue_batches = 65537, headers = {{ Host = \"secret\" }}, encoding = \"protobuf\", retry = 1 }}\n{POLICIES}", [
         "export.retry: no such key (fault 2)",
         'export.endpoint: "h:1/p" is not of the form http://HOST:PORT/PATH (fault 5)',
         "export.timeout_ms: 0 is not from 1 to 600000 (fault 5)",
         "export.queue_batches: 65537 is not from 1 to 65536 (fault 5)",
+        'export.encoding: "protobuf" is none of json, proto (fault 5)',
         "export.headers: a name or a text that can't be sent, or a field that is the collector's own (fault 5)",
     ]),
     ("fields of another type", f"export = {{ headers = {{ Host = \"h\", a = 1 }} }}\n{POLICIES}", ["export.endpoint: missing (fault 3)", "export.headers: a table of texts is wanted (fault 4)"]),
@@ -118,7 +121,13 @@ ROWS = [
     ("few traces", f"num_traces = 1\nshards = 2\n{POLICIES}", ["num_traces: fewer than shards (fault 6)"]),
     ("few traces by a default", f"num_traces = 1\nshards = 65\n{POLICIES}", ["shards: 65 is not from 1 to 64 (fault 5)"]),
     ("few traces and a fault", f"num_traces = 1\nshards = 2\nlanes = 0\n{POLICIES}", ["lanes: 0 is not from 1 to 64 (fault 5)", "num_traces: fewer than shards (fault 6)"]),
-    ("an empty list", "policies = []", [EMPTY]),
+    ("an empty list", "policies = []", ["policies: a list of policies is empty: policies (fault 7.1)"]),
+    ("an empty list within others", f'policies = [{ALL}, {{ name = "a", type = "not", not = {{ not_sub_policy = {{ name = "b", type = "drop", drop = {{ drop_sub_policy = [] }} }} }} }}]',
+     ["policies: a list of policies is empty: policies[1].not.not_sub_policy.drop.drop_sub_policy (fault 7.1)"]),
+    ("an empty list behind one that only follows", 'policies = [{ name = "a", type = "and", and = { and_sub_policy = [1] } }, { name = "b", type = "and", and = { and_sub_policy = [] } }]', [
+        "policies[0].and.and_sub_policy[0]: a table is wanted (fault 4)",
+        "policies: a list of policies is empty: policies[1].and.and_sub_policy (fault 7.1)",
+    ]),
     ("no tables", "policies = [1, \"a\", []]", [*(f"policies[{n}]: a table is wanted (fault 4)" for n in range(3)), EMPTY]),
     ("a policy without keys", "policies = [{}]", ["policies[0].name: missing (fault 3)", "policies[0].type: missing (fault 3)"]),
     ("an unknown type", 'policies = [{ name = 1, type = "rate", rate = {} }]', ["policies[0].name: a text is wanted (fault 4)", f'policies[0].type: "rate" is none of {TYPES} (fault 5)']),
@@ -159,7 +168,7 @@ ROWS = [
         'policies: "(" is no regular expression (fault 9)',
     ]),
     ("expressions of refused policies", 'policies = [{ name = "a", type = "string_attribute", string_attribute = { key = "k", values = ["("], enabled_regex_matching = true } },'
-     ' { name = "a", type = "always_sample" }]', [SAME_NAME]),
+     ' { name = "a", type = "always_sample" }]', ['policies: two policies of one list have the same name: "a" in policies (fault 7.4)']),
     ("percentages", "policies = [" + ", ".join(f'{{ name = "{n}", type = "probabilistic", probabilistic = {{ sampling_percentage = {text} }} }}' for n, text in enumerate(("101", "12.34567", '"1"', "50"))) + "]", [
         "policies[0].probabilistic.sampling_percentage: 101 is not from 0 to 100 with at most four decimals (fault 5)",
         "policies[1].probabilistic.sampling_percentage: 12.34567 is not from 0 to 100 with at most four decimals (fault 5)",
@@ -188,8 +197,42 @@ ROWS = [
         "policies[0].composite.rate_allocation[1]: a table of policy, a text, and percent, from 1 to 100, is wanted (fault 4)",
         "policies[0].composite.policy_order: not the names of composite_sub_policy, as they stand there (fault 5)",
     ]),
-    ("two of one name", f"lanes = 0\npolicies = [{ALL}, {ALL}]", ["lanes: 0 is not from 1 to 64 (fault 5)", SAME_NAME]),
-    ("nothing between bounds", 'policies = [{ name = "a", type = "span_count", span_count = { min_spans = 3, max_spans = 2 } }]', ["policies: the bounds of a policy leave nothing between them (fault 7.5)"]),
+    ("an order that only follows", 'policies = [{ name = "a", type = "composite", composite = { max_total_spans_per_second = 1, policy_order = ["x", 1, "z", "u"], composite_sub_policy = ['
+     '{ name = "x", type = "always_sample" }, { name = "y", type = "always_sample" }, { type = "always_sample" }, 3] } }]', [
+        "policies[0].composite.policy_order[1]: a text is wanted (fault 4)",
+        f"policies[0].composite.policy_order: not the names of composite_sub_policy, as they stand there{FOLLOWS} (fault 5)",
+        "policies[0].composite.composite_sub_policy[2].name: missing (fault 3)",
+        "policies[0].composite.composite_sub_policy[3]: a table is wanted (fault 4)",
+    ]),
+    ("an order that is another one, beside a part without a name", 'policies = [{ name = "a", type = "composite", composite = { max_total_spans_per_second = 1, policy_order = ["y", "z"], composite_sub_policy = ['
+     '{ name = "x", type = "always_sample" }, { type = "always_sample" }] } }]', [
+        "policies[0].composite.policy_order: not the names of composite_sub_policy, as they stand there (fault 5)",
+        "policies[0].composite.composite_sub_policy[1].name: missing (fault 3)",
+    ]),
+    ("two of one name", f"lanes = 0\npolicies = [{ALL}, {ALL}]", ["lanes: 0 is not from 1 to 64 (fault 5)", 'policies: two policies of one list have the same name: "all" in policies (fault 7.4)']),
+    ("two of one name within others", f'policies = [{ALL}, {{ name = "b", type = "composite", composite = {{ max_total_spans_per_second = 1, composite_sub_policy = ['
+     f'{{ name = "c", type = "and", and = {{ and_sub_policy = [{ALL}, {{ name = "d\\u000a", type = "trace_flags" }}, {{ name = "e", type = "trace_flags" }}, {{ name = "d\\n", type = "always_sample" }}] }} }}] }} }}]', [
+        'policies: two policies of one list have the same name: "d\\n" in policies[1].composite.composite_sub_policy[0].and.and_sub_policy (fault 7.4)']),
+    ("two of one name, of which one has no type", f'policies = [{ALL}, {{ name = "all", type = "rate" }}]', [
+        f'policies[1].type: "rate" is none of {TYPES} (fault 5)', 'policies: two policies of one list have the same name: "all" in policies (fault 7.4)']),
+    ("two of an empty name", 'policies = [{ name = "", type = "trace_flags" }, { name = "", type = "always_sample" }]', ['policies: two policies of one list have the same name: "" in policies (fault 7.4)']),
+    ("two without a name", 'policies = [{ type = "trace_flags" }, { name = 1, type = "always_sample" }]', ["policies[0].name: missing (fault 3)", "policies[1].name: a text is wanted (fault 4)", SAME_NAME]),
+    ("one without a name, and one of an empty name", 'policies = [{ type = "trace_flags" }, { name = "", type = "always_sample" }]', ["policies[0].name: missing (fault 3)", SAME_NAME]),
+    ("two without a name before two of one name", f'policies = [{{ type = "trace_flags" }}, {{ type = "trace_flags" }}, {ALL}, {ALL}]', [
+        "policies[0].name: missing (fault 3)", "policies[1].name: missing (fault 3)", 'policies: two policies of one list have the same name: "all" in policies (fault 7.4)']),
+    ("nothing between bounds", 'policies = [{ name = "a", type = "span_count", span_count = { min_spans = 3, max_spans = 2 } }]', [
+        "policies: the bounds of a policy leave nothing between them: policies[0].span_count (fault 7.5)"]),
+    ("nothing between bounds of a latency", f'policies = [{ALL}, {{ name = "a", type = "latency", latency = {{ threshold_ms = 3, upper_threshold_ms = 4 }} }}, {{ name = "b", type = "latency", latency = {{ threshold_ms = 3, upper_threshold_ms = 3 }} }}]', [
+        "policies: the bounds of a policy leave nothing between them: policies[2].latency (fault 7.5)"]),
+    ("nothing between bounds of a number", 'policies = [{ name = "a", type = "not", not = { not_sub_policy = { name = "b", type = "numeric_attribute", numeric_attribute = { key = "k", min_value = -1, max_value = -2 } } } }]', [
+        "policies: the bounds of a policy leave nothing between them: policies[0].not.not_sub_policy.numeric_attribute (fault 7.5)"]),
+    ("no values", f'policies = [{ALL}, {{ name = "a", type = "string_attribute", string_attribute = {{ key = "k", values = [] }} }}]', [
+        "policies: the values or status codes of a policy are an empty list: policies[1].string_attribute.values (fault 7.6)"]),
+    ("no status codes and no states", 'policies = [{ name = "a", type = "drop", drop = { drop_sub_policy = [{ name = "b", type = "status_code", status_code = { status_codes = [] } }, { name = "c", type = "trace_state", trace_state = { key = "k", values = [] } }] } }]', [
+        "policies: the values or status codes of a policy are an empty list: policies[0].drop.drop_sub_policy[0].status_code.status_codes (fault 7.6)"]),
+    ("no states behind values that only follow", 'policies = [{ name = "b", type = "status_code", status_code = {} }, { name = "c", type = "trace_state", trace_state = { key = "k", values = [] } }]', [
+        "policies[0].status_code.status_codes: missing (fault 3)",
+        "policies: the values or status codes of a policy are an empty list: policies[1].trace_state.values (fault 7.6)"]),
     ("65 policies", "policies = [" + ", ".join(f'{{ name = "{n}", type = "always_sample" }}' for n in range(65)) + "]", ["policies: there are more than 64 policies (fault 7.3)"]),
     ("nine deep", "policies = [" + '{ name = "a", type = "not", not = { not_sub_policy = ' * 8 + ALL + " } }" * 8 + "]", ["policies: policies are nested deeper than 8 (fault 7.2)"]),
 ]

@@ -91,11 +91,11 @@ def sent_again():
 
 
 def after_as_long_as_said():
-    """`Retry-After` in seconds; without one, and where it is no number of seconds, a second."""
+    """`Retry-After` in seconds, and less than two more; without one, and where it is no number of seconds, a second."""
     backend = Backend([(503, "3"), (503, None), (503, "Fri, 31 Dec 1999 23:59:59 GMT"), (503, "0")])
     want("the status", handed(LINES[0] + "\n", backend.url)[0], 0)
     for number, (wanted, before, now) in enumerate(zip((3, 1, 1, 1), backend.at, backend.at[1:])):
-        want(f"pause {number} is {wanted} s", wanted <= now - before < wanted + 0.9, True)
+        want(f"pause {number} is {wanted} s", wanted <= now - before < wanted + 1.9, True)
     want("how many came", len(backend.at), 5)
     backend.end()
 

@@ -3,7 +3,7 @@
 
     tests/import.py PROGRAM [WORD]      (all checks, or those with WORD in their name)
 
-Of each row of the table the output must be the text that stands there, written by hand from the README's tables, and on standard error the same remarks.
+Of each row of the table the output must be the text that stands there, written by hand from the tables of docs/FROM_TAIL_SAMPLING.md, and on standard error the same remarks.
 Then configurations are written as YAML, as the processor has them: the example of its documentation, eight of vendors' pages, and each of
 tests/transcribed.py. What is made of them must print, in a replay, what the transcribed configuration prints. It needs Debian's python3-yaml; the last
 line is 'N passed, M failed'."""
@@ -32,9 +32,9 @@ from tables import policy_settings, policy_types  # noqa: E402
 
 IMPORTER = TOP / "packaging/import/tsc-import"
 HEAD = '''# Made by tsc-import of the processor {} in c.yaml. A comment with a line's number tells what differs there or is left out;
-# what differs in corners stands in tsc's README, "From the tail_sampling processor".
+# what differs in corners stands in docs/FROM_TAIL_SAMPLING.md of tsc.
 '''
-KEPT = 'accept_gzip = true\ndouble_values = "keep"\n'
+KEPT = 'accept_gzip = true\naccept_protobuf = true\ndouble_values = "keep"\n'
 AROUND = '''receivers: { otlp: { protocols: { http: { endpoint: "127.0.0.1:4318" } } } }
 service: { pipelines: { traces: { receivers: [otlp], processors: [tail_sampling], exporters: [] } } }
 processors:
@@ -172,7 +172,7 @@ def not_checked(folder, program):
 def options_of_the_page(*_):
     """The page has each option that `--help` has."""
     told = subprocess.run([sys.executable, IMPORTER, "--help"], capture_output=True, text=True, check=True).stdout
-    page = (TOP / "docs/OPERATING.md").read_text("utf-8")
+    page = (TOP / "docs/FROM_TAIL_SAMPLING.md").read_text("utf-8")
     want("the options", sorted(re.findall(r"^\| `(--\w+)", page, re.M)), sorted(set(re.findall(r"^  (--\w+)", told, re.M))))
 
 

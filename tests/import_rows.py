@@ -1,5 +1,5 @@
-"""The rows of tests/import.py. What stands beside a configuration of the Collector is written by hand, by the README's section on the tail_sampling
-processor."""
+"""The rows of tests/import.py. What stands beside a configuration of the Collector is written by hand, by the tables of
+docs/FROM_TAIL_SAMPLING.md."""
 
 
 def of(name, kind, own=None, *remarks):
@@ -183,7 +183,7 @@ SETTINGS = [
 ]
 
 ALL = '\n[[policies]]\nname = "all"\ntype = "always_sample"\n'
-KEPT = 'accept_gzip = true\ndouble_values = "keep"\n'
+KEPT = 'accept_gzip = true\naccept_protobuf = true\ndouble_values = "keep"\n'
 ONE = "processors: { tail_sampling: { policies: [{ name: all, type: always_sample }] } }\n"
 
 # A name, a Collector's configuration, what it becomes, and arguments. A name with /shop in it is of the processor tail_sampling/shop.

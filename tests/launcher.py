@@ -223,9 +223,12 @@ def closed_as_process_1(start):
     launcher = launched.child_of(launched.pid)
     status = Path(f"/proc/{launcher}/status").read_text("utf-8")
     want("it is process 1", [line.split()[-1] for line in status.split("\n") if line.startswith("NSpid:")], ["1"])
-    subprocess.run(["nsenter", "-t", str(launcher), "-p", "sh", "-c", "sleep 0.3 & exit"], check=True)
-    until("the orphan comes", lambda: len(Path(f"/proc/{launcher}/task/{launcher}/children").read_text().split()) == 2)
-    until("the orphan is taken", lambda: len(Path(f"/proc/{launcher}/task/{launcher}/children").read_text().split()) == 1)
+    program = launched.child_of(launcher)
+    subprocess.run(["nsenter", "-t", str(launcher), "-p", "sh", "-c", "sleep 600 & exit"], check=True)
+    children = lambda: set(map(int, Path(f"/proc/{launcher}/task/{launcher}/children").read_text().split()))
+    until("the orphan comes", lambda: len(children()) == 2)
+    os.kill(*(children() - {program}), signal.SIGKILL)
+    until("the orphan is taken", lambda: children() == {program})
     os.kill(launcher, signal.SIGTERM)
     want("the status", launched.end(), 0)
     launched.wants_all()
@@ -329,7 +332,7 @@ def health(start):
     for address in (f"127.0.0.1:{free_port()}", f"unix:{folder}/admin.sock"):
         want("before the start", looked(address), 1)
         launched = Launched(start.program, AT_END + f'admin = "{address}"\n').listens()
-        want("while it runs", looked(address), 0)
+        until("it is healthy", lambda: looked(address) == 0)
         os.kill(launched.pid, signal.SIGTERM)
         want("the status", launched.end(), 0)
         want("behind the close", looked(address), 1)
@@ -378,6 +381,8 @@ def cleared(check):
 
 if __name__ == "__main__":
     resource.setrlimit(resource.RLIMIT_CORE, (0, 0))
+    for ignored in (signal.SIGHUP, signal.SIGINT, signal.SIGQUIT, signal.SIGTERM):  # (as behind `nohup`, or in a shell's background)
+        signal.signal(ignored, signal.SIG_DFL)
     if not sys.argv[1:]:
         sys.exit(__doc__.split("\n\n")[1])
     run_checks([os.path.abspath(it) for it in sys.argv[1:]], [cleared(it) for it in CHECKS])

@@ -3,6 +3,7 @@
 # status. In each run that is done, the number of spans received must be the sum of the other eight.
 #     tests/run.sh            proves and builds the program where it has changed, and runs it
 #     tests/run.sh PROGRAM..  runs programs that are built already, as `rt ci` leaves them in crates/collector_main/out
+#     tests/run.sh --without NAME .. PROGRAM..      leaves out what has such a name: a group of runs (a function below), or a run
 # It prints a line for each mismatch, and last 'N passed, M failed'. Its status is 1 where something failed, and 2 where nothing could be compared.
 set -u -o pipefail
 
@@ -18,11 +19,22 @@ work=$(mktemp -d) || give_up "no folder for its files"
 trap 'rm -rf "$work"' EXIT
 passed=0
 failed=0
+declare -A without=()
+while [ "${1:-}" = --without ] && [ $# -gt 1 ]; do
+    without[$2]=1
+    shift 2
+done
+
+# Whether a run isn't left out.
+is_wanted() {
+    [ -z "${without[$1]:-}" ]
+}
 
 # Compares one run of a script: its name, the status and the file of output that are wanted, the file of its input, and the command.
 check() {
     local name=$1 got wrong=""
     shift
+    is_wanted "$name" || return 0
     compare "$@"
     [ "$got" -ne 0 ] || adds_up "$work/out" || wrong="$wrong; received is not the sum of the other counts"
     tell "$name" "$wrong"
@@ -32,6 +44,7 @@ check() {
 check_text() {
     local name=$1 got wrong=""
     shift
+    is_wanted "$name" || return 0
     compare "$@"
     tell "$name" "$wrong"
 }
@@ -40,6 +53,7 @@ check_text() {
 check_refusal() {
     local name=$1 got wrong="" said
     shift
+    is_wanted "$name" || return 0
     compare "$@"
     said=$(grep -c '^[-0-9]*T[0-9:.]*Z ERROR [a-z_]* ' "$work/err")
     [ "$said" -eq 1 ] && wrong=${wrong%; it wrote to standard error} || wrong="$wrong; it says $said errors and not one"
@@ -296,10 +310,67 @@ validated() {
     told_unreadable "$work/config.toml" "longer than 1048576 bytes"
     check_text "a configuration of 1048577 bytes to validate" 3 "$work/expected" /dev/null "$program" validate "$work/config.toml"
     { printf 'policies = [' && for number in {1..20000}; do printf '%s,' "$number"; done && printf ']\n'; } > "$work/config.toml"
-    { for number in {0..19999}; do echo "policies[$number]: a table is wanted (fault 4)"; done && echo 'policies: a list of policies is empty (fault 7.1)'; } > "$work/expected"
+    { for number in {0..19999}; do echo "policies[$number]: a table is wanted (fault 4)"; done && echo 'policies: a list of policies is empty; it follows from another fault (fault 7.1)'; } > "$work/expected"
     check_text "20000 faults" 3 "$work/expected" /dev/null "$program" validate "$work/config.toml"
-    printf 'tsc: no memory\n' > "$work/expected"
-    check_within 6144 "no memory for 20000 faults" 5 "$work/expected" /dev/null "$program" validate "$work/config.toml"
+    scarce_faults
+}
+
+# Runs a command that has so many KiB of address space.
+within() {
+    bash -c 'ulimit -v "$0" && exec "$@"' "$@"
+}
+
+# Puts into least the least address space in KiB, by steps of 256, in which the program runs at all. Whether there is one of at most 64 MiB.
+find_room() {
+    for ((least = 3072; least <= 65536; least += 256)); do
+        ! { within "$least" "$program" version; } > /dev/null 2>&1 || return 0
+    done
+    return 1
+}
+
+# The same in address spaces that grow from where the program runs at all: where there is no memory for the configuration, that is fault 8; then there
+# is none for its faults, which must be met; and then all are told. In the first MiB of them, before one of these is met, a signal may end the program,
+# which then has no memory for its stack.
+scarce_faults() {
+    local name="no memory for 20000 faults" least room status met="" missed=0 wrong="not all are told in 64 MiB"
+    is_wanted "$name" || return 0
+    printf 'tsc: no memory\n' > "$work/missed"
+    find_room || {
+        tell "$name" "it doesn't run in 64 MiB"
+        return 0
+    }
+    for ((room = least; room <= least + 65536; room += 256)); do
+        status=0
+        { within "$room" "$program" validate "$work/config.toml" > "$work/out" 2> "$work/err"; } 2> /dev/null || status=$?
+        [ -n "$met" ] || [ "$status" -lt 126 ] || [ "$room" -ge $((least + 1024)) ] || continue
+        met=1
+        if [ "$status" -eq 3 ] && cmp -s "$work/expected" "$work/out"; then
+            wrong=""
+            break
+        fi
+        if [ "$status" -eq 5 ] && cmp -s "$work/missed" "$work/out"; then
+            missed=$((missed + 1))
+        elif [ "$status" -ne 3 ] || [ -s "$work/err" ] || ! grep -q '(fault 8)$' "$work/out"; then
+            wrong="in $room KiB status $status, and it says $(head -c 200 "$work/err") $(head -c 200 "$work/out")"
+            break
+        fi
+    done
+    [ -n "$wrong" ] || [ "$missed" -gt 0 ] || wrong="there was always memory for its faults"
+    tell "$name" "$wrong"
+}
+
+# A body in protobuf, shown as JSON, or why it is none.
+shown() {
+    local name status got wrong
+    while read -r name; do
+        status=0
+        wrong=""
+        [ ! -s "$work/$name.err" ] || status=4
+        compare "$status" "$work/$name.out" "$work/$name.body" "$program" show
+        wrong=${wrong%; it wrote to standard error}
+        cmp -s "$work/$name.err" "$work/err" || wrong="$wrong; it says $(head -c 300 "$work/err")"
+        tell "$name" "$wrong"
+    done < "$work/shown"
 }
 
 # A collector whose configuration is refused, and one whose address is none.
@@ -355,9 +426,10 @@ check_within() {
     check "$name" "$status" "$expected" "$input" bash -c 'ulimit -v "$0" && exec "$@"' "$room" "$@"
 }
 
-# A configuration whose queues and batches want gigabytes, and one that takes megabytes to read: what else is wrong with it is then not seen.
+# A configuration whose queues and batches want gigabytes, and one that takes more to read than the 4 MiB that it has beside what the program needs to
+# run at all: what else is wrong with it is then not seen.
 no_memory() {
-    local row="$top/tests/rows/error_span_is_kept"
+    local row="$top/tests/rows/error_span_is_kept" least
     {
         printf '%s\n' 'num_traces = 1000000' 'lanes = 64' 'shards = 64' 'queue_capacity = 65536' 'send_batch_size = 8192'
         printf '%s\n' 'policies = [{ name = "all", type = "always_sample" }]'
@@ -367,7 +439,11 @@ no_memory() {
     check_within 262144 "no memory at the start" 5 "$work/expected" "$row/script" "$program" replay "$work/config.toml"
     { printf 'polices = [' && spaces 500000 | sed 's/ /1,/g' && printf ']\n'; } > "$work/config.toml"
     printf 'tsc: configuration refused: 8\n' > "$work/expected"
-    check_within 8192 "no memory for the configuration" 3 "$work/expected" /dev/null "$program" replay "$work/config.toml"
+    if find_room; then
+        check_within $((least + 4096)) "no memory for the configuration" 3 "$work/expected" /dev/null "$program" replay "$work/config.toml"
+    else
+        tell "no memory for the configuration" "it doesn't run in 64 MiB"
+    fi
     printf 'tsc: configuration refused: 2\n' > "$work/expected"
     check "the same with memory" 3 "$work/expected" /dev/null "$program" replay "$work/config.toml"
 }
@@ -383,7 +459,7 @@ made_runs() {
     done < "$work/names"
 }
 
-# The README's table of keys and the example of every key, against the definition of the keys.
+# The tables of docs/CONFIGURATION.md and the example of every key, against the definition of the keys.
 table_of_keys() {
     local wrong
     wrong=$(PYTHONDONTWRITEBYTECODE=1 "$top/tests/settings.py" 2>&1) || wrong=${wrong:-"tests/settings.py failed"}
@@ -398,25 +474,13 @@ for runs in limits policies configurations transcribed; do
     PYTHONDONTWRITEBYTECODE=1 "$top/tests/$runs.py" "$work" >> "$work/names" || give_up "no $runs"
 done
 PYTHONDONTWRITEBYTECODE=1 "$top/tests/faulty.py" "$work" > "$work/faulty" || give_up "no faulty configurations"
+PYTHONDONTWRITEBYTECODE=1 "$top/tests/shown.py" "$work" > "$work/shown" || give_up "no bodies"
 for program in "$@"; do
     [ -x "$program" ] || give_up "$program is no program"
     program=$(realpath "$program")
-    examples
-    rows
-    cut_scripts
-    cut_bodies
-    unreadable_script
-    long_lines
-    script_lines
-    usage
-    texts
-    validated
-    refused_before_it_listens
-    unreadable
-    no_room
-    no_memory
-    table_of_keys
-    made_runs
+    for group in examples rows cut_scripts cut_bodies unreadable_script long_lines script_lines usage texts validated shown refused_before_it_listens unreadable no_room no_memory table_of_keys made_runs; do
+        ! is_wanted "$group" || "$group"
+    done
 done
 echo "$passed passed, $failed failed"
 [ "$failed" -eq 0 ]

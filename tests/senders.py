@@ -1,6 +1,6 @@
 """What senders do beside the plain request, as a table: each row is one request on a connection of its own, and what it is answered.
 
-Where a standard decides, the row says so: RFC 9110 and 9112, the OTLP specification ("JSON Protobuf Encoding") and RFC 8259. docs/OPERATING.md has the same table for readers."""
+Where a standard decides, the row says so: RFC 9110 and 9112, the OTLP specification ("JSON Protobuf Encoding") and RFC 8259. docs/operating/HTTP.md has the same table for readers."""
 
 import base64
 import gzip

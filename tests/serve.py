@@ -1,10 +1,14 @@
 """Runs `tsc serve` under clients on the loopback address, and compares what they are answered, what it prints and how it ends.
 
-Each check counts once. What must come out is computed here, from what was sent and answered, and never by the program.
+    serve.py [--share K/N] [--without NAME ..] PROGRAM..      (each N-th check, from the K-th on; NAME: a check that is left out)
+
+Each check counts once; one that can't be made on this machine is told as left out, and fails where the environment's CI is `true`. What must come out
+is computed here, from what was sent and answered, and never by the program.
 """
 
 import json
 import os
+import shutil
 import subprocess
 import sys
 import tempfile
@@ -22,7 +26,8 @@ import serve_many
 import serve_memory
 import serve_operated
 import serve_output
-from collector import ALL, ERRORS, ERROR_LINE, ERROR_SPAN, Failure, body_of, post, run_checks, spans_of, want
+import serve_protobuf
+from collector import ALL, ERRORS, ERROR_LINE, ERROR_SPAN, Failure, LeftOut, body_of, post, run_checks, spans_of, want
 
 
 def one_error(start):
@@ -51,23 +56,29 @@ def serve_on_loopback(start):
 
 
 def asks_behind_the_close(start):
-    """A request that comes on an open connection just behind the close is refused, and not counted."""
+    """A request of which the first half came before the close, and the rest just behind it, is refused; one that comes whole on an idle connection is
+    refused, or the connection is ended. Neither is counted."""
     collector = start("lanes = 2\n" + ALL)
-    silent = collector.client()
-    closing = collector.client()
-    late = collector.client()
-    for client in (closing, late):
-        client.send(post(body_of([ERROR_SPAN])))
+    silent, closing, late, idle = (collector.client() for _ in range(4))
+    request = post(body_of([ERROR_SPAN]))
+    for client in (closing, late, idle):
+        client.send(request)
         want("the answer before the close", client.answer()[::2], (200, "{}"))
+    late.send(request[:40])
     closing.send(post(b"", "/close"))
     want("the answer to /close", closing.answer()[::2], (200, "{}"))
-    late.send(post(body_of([ERROR_SPAN])))
+    late.send(request[40:])
     refused = b'HTTP/1.1 503 Service Unavailable\r\nContent-Type: application/json\r\nContent-Length: 21\r\nRetry-After: 1\r\nConnection: close\r\n\r\n{"message":"closing"}'
+    try:
+        idle.send(request)
+        want("the answer on an idle connection", idle.rest() in (refused, b""), True)
+    except (ConnectionResetError, BrokenPipeError):
+        pass
     want("the answer behind the close", late.rest(), refused)
     lines, numbers = collector.end()
     silent.close()
-    want("the number of spans", len(spans_of(lines)), 2)
-    want("the report", numbers, [2, 2, 0, 0, 0, 0, 0, 0, 0])
+    want("the number of spans", len(spans_of(lines)), 3)
+    want("the report", numbers, [3, 3, 0, 0, 0, 0, 0, 0, 0])
 
 
 def is_kept_while_it_runs(start):
@@ -321,7 +332,9 @@ def reader_is_gone(start):
 
 
 def under_curl(start):
-    """The same request by curl, where that is there: with a length, in chunks, with an expectation."""
+    """The same request by curl, without which this is left out: with a length, in chunks, with an expectation."""
+    if not shutil.which("curl"):
+        raise LeftOut("there is no curl")
     collector = start(ALL)
     url = f"http://127.0.0.1:{collector.port}/v1/traces"
     ways = [[], ["-H", "Transfer-Encoding: chunked"], ["-H", "Expect: 100-continue"]]
@@ -332,17 +345,21 @@ def under_curl(start):
     want("the report", collector.close()[1], [3, 3, 0, 0, 0, 0, 0, 0, 0])
 
 
-def has_curl():
-    """Whether curl is there."""
-    return any(os.access(os.path.join(folder, "curl"), os.X_OK) for folder in os.environ.get("PATH", "").split(":"))
-
-
 def main():
     """Runs each check on each program."""
     checks = [one_error, serve_on_loopback, asks_behind_the_close, is_kept_while_it_runs, keep_alive, chunked, expect, refusals, broken_clients, many_clients]
-    checks += [queues_of_four, closes_under_way, refused_address, reader_is_gone] + ([under_curl] if has_curl() else [])
-    own = [senders, serve_limits, serve_many, serve_faults, serve_admin, serve_config, serve_close, serve_memory, serve_export, serve_operated, serve_output]
-    run_checks(sys.argv[1:], checks + [check for it in own for check in it.CHECKS])
+    checks += [queues_of_four, closes_under_way, refused_address, reader_is_gone, under_curl]
+    own = [senders, serve_limits, serve_many, serve_faults, serve_admin, serve_config, serve_close, serve_memory, serve_export, serve_operated, serve_output, serve_protobuf]
+    checks += [check for it in own for check in it.CHECKS]
+    programs, left_out, share, of = sys.argv[1:], [], 1, 1
+    if programs[:1] == ["--share"]:
+        share, of = map(int, programs[1].split("/"))
+        programs = programs[2:]
+    while programs[:1] == ["--without"]:
+        left_out, programs = [*left_out, *programs[1:2]], programs[2:]
+    if strangers := set(left_out) - {it.__name__ for it in checks}:
+        sys.exit(f"serve.py: no check {', '.join(sorted(strangers))}\n0 passed, 1 failed")
+    run_checks(programs, [it for it in checks if it.__name__ not in left_out][share - 1 :: of])
 
 
 if __name__ == "__main__":

@@ -1,7 +1,7 @@
 #!/usr/bin/env bash
 # Runs `tsc serve` as a collector under clients on this machine: requests in every form, clients that stop or say nothing, many at once, the
 # ordered close, and an output whose reader is gone. The whole is in serve.py; it needs python3, and says so where that isn't there.
-#     tests/serve.sh PROGRAM..
+#     tests/serve.sh PROGRAM..      (words before it are those of serve.py: a share of the checks, and what is left out)
 # Its last line is 'N passed, M failed'.
 set -u
 top=$(cd "$(dirname "$0")/.." && pwd)

@@ -67,31 +67,37 @@ def answers_otherwise(start):
             want("the request", asked, [b"POST /close HTTP/1.1\r\nHost: tsc\r\nContent-Length: 0\r\nConnection: close\r\n\r\n"])
 
 
+def end_of_a_client(collector):
+    """How a client that connects now ends: `taken`, `closing`, or what else it is."""
+    try:
+        connection = Client(collector.port)
+    except ConnectionRefusedError:
+        return "nobody"
+    try:
+        connection.send(post(body_of([])))
+        status, _, body = connection.answer()
+        return "taken" if (status, body) == (200, "{}") else "closing" if (status, body) == (503, '{"message":"closing"}') else (status, body)
+    except (OSError, Failure) as error:
+        return f"cut off: {error!r}"
+    finally:
+        connection.close()
+
+
 def clients_as_it_closes(start):
-    """Forty clients who connect from just before a close until the collector has ended are all answered, by 200 or by 503 `closing`, or find nobody who listens;
-    none is cut off. A backend that is away keeps the collector closing for two seconds."""
-    away = f'[export]\nendpoint = "http://127.0.0.1:{free_port()}/v1/traces"\nclose_wait_ms = 2000\n'
+    """Forty clients who connect from just before a close until a second and a half behind it are all answered, by 200 or by 503 `closing`, and at
+    least three by this; none is cut off. A backend that is away keeps the collector closing for six seconds. (Who connects just as it ends may be cut
+    off, and isn't looked at; nor is a client that a slow machine brings four seconds behind the first.)"""
+    away = f'[export]\nendpoint = "http://127.0.0.1:{free_port()}/v1/traces"\nclose_wait_ms = 6000\n'
     collector = start(ALL + away)
     want("the answer", collector.ask(post(body_of([ERROR_SPAN])))[::2], (200, "{}"))
-    ends = []
+    ends, began = [], time.monotonic()
 
     def ask(after):
         time.sleep(after)
-        try:
-            connection = Client(collector.port)
-        except ConnectionRefusedError:
-            ends.append("nobody")
-            return
-        try:
-            connection.send(post(body_of([])))
-            status, _, body = connection.answer()
-            ends.append("taken" if (status, body) == (200, "{}") else "closing" if (status, body) == (503, '{"message":"closing"}') else (status, body))
-        except (OSError, Failure) as error:
-            ends.append(f"cut off: {error!r}")
-        finally:
-            connection.close()
+        if time.monotonic() - began < 4:
+            ends.append(end_of_a_client(collector))
 
-    threads = [threading.Thread(target=ask, args=(number * 0.08,)) for number in range(40)]
+    threads = [threading.Thread(target=ask, args=(number * 0.0425,)) for number in range(40)]
     for thread in threads:
         thread.start()
     time.sleep(0.2)
@@ -99,8 +105,8 @@ def clients_as_it_closes(start):
     for thread in threads:
         thread.join()
     collector.end()
-    want("how else a client ended", [it for it in ends if it not in ("taken", "closing", "nobody")], [])
-    want("whether some were told that it closes", ends.count("closing") >= 10, True)
+    want("how else a client ended", [it for it in ends if it not in ("taken", "closing")], [])
+    want(f"whether three or more of {ends} were told that it closes", ends.count("closing") >= 3, True)
 
 
 CHECKS = [not_closed_at_requests, nothing_to_close, answers_otherwise, clients_as_it_closes]

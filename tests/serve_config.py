@@ -7,23 +7,23 @@ import tomllib
 
 from collector import ALL, want
 from serve_admin import asked, free_port, get
-from settings import TOP, cache_numbers, export_numbers, export_truths, other_names, readme_empty_texts, readme_numbers
+from settings import PAGE, TOP, cache_numbers, export_numbers, export_truths, other_names, page_empty_texts, page_numbers
 
 CACHES, ROOT_WAIT = "decision_cache", "root_wait_ms"
 
 
 def defaults():
-    """The README's default of each key that has one: those of the table of caches within it, and those of `export` left out."""
-    numbers = {key: rows[0][0] for key, rows in readme_numbers().items()}
+    """The default of each key by docs/CONFIGURATION.md that has one: those of the table of caches within it, and those of `export` left out."""
+    numbers = {key: rows[0][0] for key, rows in page_numbers().items()}
     top = {key: number for key, number in numbers.items() if key not in cache_numbers() | export_numbers() and key not in other_names()}
-    others = re.findall(r"^\| `(\w+)`: [^|]* \| (?:true or false|`\w+` \([^|]*) \| (`\w+`|false)[^|]* \|", (TOP / "README.md").read_text(), re.M)
+    others = re.findall(r"^\| `(\w+)`: [^|]* \| (?:true or false|`\w+` \([^|]*) \| (`\w+`|false)[^|]* \|", PAGE.read_text(), re.M)
     top |= {key: text.strip("`") if text.startswith("`") else False for key, text in others if key not in export_truths()}
-    top |= {key: "" for key in readme_empty_texts()}
+    top |= {key: "" for key in page_empty_texts()}
     return top | {CACHES: {key: numbers[key] for key in cache_numbers()}}
 
 
 def with_defaults(settings):
-    """What a configuration sets, with the defaults of the README's table."""
+    """What a configuration sets, with the defaults of docs/CONFIGURATION.md."""
     whole = defaults() | settings
     if other_names() & settings.keys():
         del whole[ROOT_WAIT]
@@ -54,7 +54,7 @@ def validated(program, folder, text):
 
 
 def settings_in_force(start):
-    """`/config` tells what was set and the README's defaults; it has no fault, and of a collector that runs by it, `/config` tells the same text."""
+    """`/config` tells what was set and the defaults of docs/CONFIGURATION.md; it has no fault, and of a collector that runs by it, `/config` tells the same text."""
     for settings in examples():
         admin = free_port()
         collector = start(f'admin = "127.0.0.1:{admin}"\n' + settings)

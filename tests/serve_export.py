@@ -16,6 +16,10 @@ from serve_limits import at_most
 
 OK = b"HTTP/1.1 200 OK\r\nContent-Type: application/json\r\nContent-Length: 2\r\n\r\n{}"
 FAST = "decision_wait_ms = 50\ntick_ms = 20\n"
+# How long a line is waited for where a check doesn't say it: a backend that stalls for a while isn't asked twice.
+WAITS = "timeout_ms = 20000\nretry_initial_ms = 50\nretry_max_ms = 200\nclose_wait_ms = 5000\n"
+# The same where an attempt is to end for want of an answer.
+SHORT = WAITS.replace("20000", "1000")
 
 
 def answer(status, fields="", body=b"{}"):
@@ -103,10 +107,9 @@ class Backend:
         finally:
             connection.close()
 
-    def settings(self, more=""):
+    def settings(self, waits=WAITS):
         """The settings of a collector that sends here."""
-        waits = "timeout_ms = 1000\nretry_initial_ms = 50\nretry_max_ms = 200\nclose_wait_ms = 5000\n"
-        return f'[export]\nendpoint = "http://127.0.0.1:{self.port}/v1/traces"\n' + (more or waits)
+        return f'[export]\nendpoint = "http://127.0.0.1:{self.port}/v1/traces"\n' + waits
 
 
 def send(collector, first, count=1):
@@ -192,12 +195,13 @@ def no_time_is_no_wish(start):
 
 
 def tries_again(start):
-    """What may be tried again is, on a connection that is made again where it breaks; each line arrives once, in order."""
+    """What may be tried again is, on a connection that is made again where it breaks; each line arrives once, in order. (Two of the answers don't
+    come to an end, and are waited for.)"""
     chunked = [b"HTTP/1.1 200 OK\r\nTransfer-Encoding: chunked\r\n\r\n", b"2\r\n{", b"}\r\n0", b"\r\n\r\n"]
     script = [[answer(503, "Retry-After: 1\r\n")], [answer(429)], [answer(502)], [answer(504)], 10, [OK[:20]], [b"unasked"]]
     script += [[b"HTTP/1.1 100 Continue\r\n\r\n", OK], chunked, [OK.replace(b"\r\n\r\n", b"\r\nConnection: close\r\n\r\n")], [OK[at : at + 4] for at in range(0, len(OK), 4)]]
     backend = Backend(script)
-    collector = start(FAST + ALL + backend.settings())
+    collector = start(FAST + ALL + backend.settings(WAITS.replace("20000", "5000")))
     for number in range(5):
         send(collector, number)
         until("the line", lambda n=number: len(backend.taken) >= n + 1)
@@ -229,7 +233,7 @@ def no_answers(start):
     script += [(b"HTTP/1.0 200 OK\r\n\r\n{}",)]
     tries = len(script)
     backend = Backend(script)
-    waits = "timeout_ms = 1000\nretry_initial_ms = 1\nretry_max_ms = 1\n"
+    waits = "timeout_ms = 20000\nretry_initial_ms = 1\nretry_max_ms = 1\n"
     collector = start(FAST + ALL + backend.settings(waits))
     send(collector, 0)
     until("the tries", lambda: len(backend.requests) == tries)
@@ -278,38 +282,48 @@ def waits_for_a_backend(start):
 def late_answer(start):
     """An answer behind the time of an attempt is none: the line is sent again, and counted once."""
     backend = Backend([2.0])
-    collector = start(FAST + ALL + backend.settings())
+    collector = start(FAST + ALL + backend.settings(SHORT))
     send(collector, 0)
     until("the lines", lambda: len(backend.taken) >= 2)
     want("the report", collector.close()[1], [1, 1, 0, 0, 0, 0, 0, 0, 0])
 
 
 def patience_ends(start):
-    """A line that is not taken within `retry_for_ms` is given up; so is one at the close, behind `close_wait_ms`."""
-    backend = Backend([[answer(503)]] * 10000)
-    waits = "timeout_ms = 500\nretry_initial_ms = 20\nretry_max_ms = 50\nretry_for_ms = 300\nclose_wait_ms = 400\n"
-    collector = start(FAST + ALL + backend.settings(waits))
+    """A line that is not taken within `retry_for_ms` is given up, after three tries or more; so is one at the close, behind `close_wait_ms`."""
+    waits = "timeout_ms = 5000\nretry_initial_ms = 20\nretry_max_ms = 50\nclose_wait_ms = 400\n"
+    backend, admin = Backend([[answer(503)]] * 100000), free_port()
+    collector = start(FAST + ALL + f'admin = "127.0.0.1:{admin}"\n' + backend.settings(waits + "retry_for_ms = 3000\n"))
     send(collector, 0)
-    time.sleep(1)
+    until("the end of patience", lambda: scrape(admin)['tsc_spans_dropped_total{reason="exporter_down"}'] == 1)
+    want(f"whether {len(backend.requests)} tries are three or more", len(backend.requests) >= 3, True)
+    want("the answer to /close", asked(admin, post(b"", "/close"))[::2], (200, "{}"))
+    want("the report", collector.end()[1], [1, 0, 0, 0, 0, 0, 0, 0, 1])
+    collector = start(FAST + ALL + backend.settings(waits + "retry_for_ms = 600000\n"))
     tries = len(backend.requests)
     send(collector, 1)
-    began = time.time()
-    want("the report", collector.close()[1], [2, 0, 0, 0, 0, 0, 0, 0, 2])
-    if tries < 3 or time.time() - began > 5:
-        raise Failure(f"{tries} tries, and a close of {time.time() - began:.1f} seconds")
+    until("a try", lambda: len(backend.requests) > tries)
+    began = time.monotonic()
+    want("the report of the other", collector.close()[1], [1, 0, 0, 0, 0, 0, 0, 0, 1])
+    at_most("the close", 30, began)
 
 
 def waits_grow(start):
-    """Each wait before a line is sent again is twice the one before it, less its half at most, up to the longest."""
-    backend = Backend([[answer(503)]] * 6)
-    waits = "timeout_ms = 1000\nretry_initial_ms = 100\nretry_max_ms = 800\n"
-    collector = start(FAST + ALL + backend.settings(waits))
-    send(collector, 0)
-    until("the requests", lambda: len(backend.requests) == 7)
-    want("the report", collector.close()[1], [1, 1, 0, 0, 0, 0, 0, 0, 0])
-    for wait, before, after in zip((100, 200, 400, 800, 800, 800), backend.times, backend.times[1:]):
-        if after - before < wait / 2000 - 0.1:
-            raise Failure(f"{after - before:.3f} s were waited in place of {wait} ms")
+    """Each wait before a line is sent again is twice the one before it, less its half at most, up to the longest; with the next line they begin anew,
+    so that of three lines one at least is sent again sooner than by half the longest wait."""
+    again = [answer(503)]
+    backend = Backend([again] * 4 + [[OK], again, [OK], again])
+    collector = start(FAST + ALL + backend.settings("timeout_ms = 20000\nretry_initial_ms = 400\nretry_max_ms = 1600\n"))
+    for number, requests in enumerate((5, 7, 9)):
+        send(collector, number)
+        until("the requests", lambda n=requests: len(backend.requests) == n)
+    want("the report", collector.close()[1], [3, 3, 0, 0, 0, 0, 0, 0, 0])
+    passed = [after - before for before, after in zip(backend.times, backend.times[1:])]
+    for wait, took in zip((400, 800, 1600, 1600), passed):
+        if took < wait / 2000 - 0.005:
+            raise Failure(f"{took:.3f} s were waited in place of {wait} ms")
+    soonest = min(passed[0], passed[5], passed[7])
+    if soonest > 0.8:
+        raise Failure(f"the soonest of three lines was sent again after {soonest:.3f} s, with 400 ms for the first wait")
 
 
 def long_answers(start):

@@ -7,7 +7,7 @@ import subprocess
 import tempfile
 import time
 
-from collector import ALL, ERROR_SPAN, Client, Failure, body_of, post, want
+from collector import ALL, ERROR_SPAN, Client, Failure, LeftOut, body_of, post, want
 from serve_admin import asked, free_port
 from serve_export import Backend
 from serve_limits import at_most
@@ -17,7 +17,9 @@ HERE = os.path.dirname(os.path.abspath(__file__))
 
 
 def library_of(name, folder):
-    """Makes the library of this C file, which is loaded ahead of the C library, and returns its path."""
+    """Makes the library of this C file, which is loaded ahead of the C library, and returns its path. Without a C compiler the check is left out."""
+    if not shutil.which("cc"):
+        raise LeftOut("there is no C compiler")
     library = os.path.join(folder, f"{name}.so")
     subprocess.run(["cc", "-shared", "-fPIC", "-O1", "-o", library, os.path.join(HERE, f"{name}.c")], check=True)
     return library
@@ -91,9 +93,8 @@ def is_refused(client):
         client.close()
 
 
-def waits_at_the_close(start):
-    """Where one connection may be open and has a request under way, three others wait: at the close they are taken once it is cut, and refused. (A
-    machine that stands still for a tenth of a second may cut one of them off.)"""
+def refused_of_three(start):
+    """How many of three that wait at the close, behind one with a request under way, are told of it."""
     admin, request = free_port(), post(body_of([ERROR_SPAN]))
     collector = start(f'max_connections = 1\nadmin = "127.0.0.1:{admin}"\n' + ALL)
     busy = collector.client()
@@ -104,10 +105,19 @@ def waits_at_the_close(start):
         client.send(request)
     want("the answer to the close", asked(admin, post(b"", "/close"))[::2], (200, "{}"))
     refused = [is_refused(client) for client in waiting]
-    if sum(refused) < 2:
-        raise Failure(f"of three that waited at the close {sum(refused)} were refused")
     busy.close()
     want("the report", collector.end()[1], [0] * 9)
+    return sum(refused)
+
+
+def waits_at_the_close(start):
+    """Where one connection may be open and has a request under way, three others wait: at the close they are taken once it is cut, and refused. (A
+    machine that stands still for a tenth of a second may cut them off: one may be, and there are three tries.)"""
+    refused = []
+    while not refused or refused[-1] < 2:
+        if len(refused) == 3:
+            raise Failure(f"of three that waited at the close, in three tries {refused} were refused")
+        refused.append(refused_of_three(start))
 
 
 def never_reads(start):
@@ -133,4 +143,4 @@ def never_reads(start):
     want("the report", collector.close()[1], [0] * 9)
 
 
-CHECKS = [waits_at_the_close, never_reads] + ([interrupted_reads, second_address] if shutil.which("cc") else [])
+CHECKS = [waits_at_the_close, never_reads, interrupted_reads, second_address]

@@ -27,8 +27,8 @@ def side_by_side(work, arguments):
     def guarded(argument):
         try:
             work(argument)
-        except (Failure, OSError) as problem:
-            problems.append(str(problem))
+        except (Failure, OSError, ValueError, LookupError) as problem:
+            problems.append(f"{problem}" if isinstance(problem, Failure) else repr(problem))
 
     threads = [threading.Thread(target=guarded, args=(it,)) for it in arguments]
     for it in threads:
@@ -97,12 +97,15 @@ def two_closes(start):
         client.send(post(body_of([ERROR_SPAN])))
         want("the answer", client.answer()[::2], (200, "{}"))
     first.send(post(b"", "/close"))
-    second.send(post(b"", "/close"))
+    try:
+        second.send(post(b"", "/close"))
+        second.rest()
+    except (ConnectionResetError, BrokenPipeError):
+        pass  # (it came so late that the idle connection was ended already)
     want("the answer to the first close", first.answer()[::2], (200, "{}"))
-    second.rest()
     began = time.monotonic()
     want("the report", collector.end()[1], [2, 2, 0, 0, 0, 0, 0, 0, 0])
-    at_most("the end", 5, began)
+    at_most("the end", 30, began)
 
 
 def ends_before_a_tick(start):
@@ -112,7 +115,7 @@ def ends_before_a_tick(start):
     time.sleep(0.5)  # so that it sleeps already
     began = time.monotonic()
     want("the report", collector.close()[1], [1, 1, 0, 0, 0, 0, 0, 0, 0])
-    at_most("the close", 3, began)
+    at_most("the close", 30, began)
 
 
 def accepts_soon(start):
@@ -121,7 +124,7 @@ def accepts_soon(start):
     began = time.monotonic()
     for _ in range(100):
         want("the answer", collector.ask(post(body_of([ERROR_SPAN])))[::2], (200, "{}"))
-    at_most("a hundred connections", 5, began)
+    at_most("a hundred connections", 10, began)
     collector.close()
 
 
@@ -141,17 +144,15 @@ def hands_over_soon(start):
         while lines_in(collector.printed) <= number:
             at_most(f"trace {number}", 30, began)
             time.sleep(0.001)
-    at_most("thirty traces", 6, began)
+    at_most("thirty traces", 15, began)
     client.close()
     collector.close()
 
 
-def wakes_soon(start):
-    """Ten traces, each sent after a rest in which the exporter falls asleep: what is pushed wakes it. The five soonest are in the output at once."""
-    collector = start("decision_wait_ms = 1\ntick_ms = 1\n" + ALL)
-    client = collector.client()
+def five_soonest(collector, client, first):
+    """Of ten traces from a number on, each sent after a rest, how long the five that were in the output soonest took in all."""
     waits = []
-    for number in range(10):
+    for number in range(first, first + 10):
         time.sleep(0.3)
         began = time.monotonic()
         client.send(post(body_of(spans_by_number(number, 1))))
@@ -160,21 +161,40 @@ def wakes_soon(start):
             at_most(f"trace {number}", 30, began)
             time.sleep(0.001)
         waits.append(time.monotonic() - began)
-    if sum(sorted(waits)[:5]) > 0.6:
-        raise Failure(f"the five soonest of ten traces that came after a rest took {sum(sorted(waits)[:5]):.2f} s and not at most 0.6")
+    return sum(sorted(waits)[:5])
+
+
+def wakes_soon(start):
+    """Ten traces, each sent after a rest in which the exporter falls asleep: what is pushed wakes it. The five soonest are in the output at once,
+    within 0.6 seconds in all, which a thread that sleeps 250 ms at an empty queue doesn't keep (docs/PLANTED.md). A busy machine has three tries."""
+    collector = start("decision_wait_ms = 1\ntick_ms = 1\n" + ALL)
+    client = collector.client()
+    took = []
+    while not took or took[-1] > 0.6:
+        if len(took) == 3:
+            raise Failure(f"the five soonest of ten traces that came after a rest took {took} s and not at most 0.6")
+        took.append(five_soonest(collector, client, 10 * len(took)))
     client.close()
     collector.close()
 
 
 def few_lines(start):
-    """Five thousand spans that are handed over at the close come in batches, and not each in a line of its own."""
-    collector = start("send_batch_size = 512\nqueue_capacity = 8192\n" + ALL)
+    """Five thousand spans that are handed over at the close come in batches, and not each in a line of its own, where the output's reader stands
+    still at first (a pipe takes some hundred short lines meanwhile)."""
+    reader, writer = os.pipe()
+    collector = start("send_batch_size = 512\nqueue_capacity = 8192\n" + ALL, output=writer)
+    os.close(writer)
     for at in range(5):
         want("the answer", collector.ask(post(body_of(spans_by_number(1000 * at, 1000))))[::2], (200, "{}"))
-    lines, numbers = collector.close()
-    want("the report", numbers, [5000, 5000, 0, 0, 0, 0, 0, 0, 0])
-    if not 10 <= len(lines) <= 2500:
-        raise Failure(f"5000 spans in {len(lines)} lines")
+    want("the answer to /close", collector.ask(post(b"", "/close"))[::2], (200, "{}"))
+    time.sleep(2)
+    with open(reader, encoding="utf-8") as file:
+        lines = file.read().splitlines()
+    collector.end()
+    want("the report", lines[-9:-7], ["received 5000", "handed 5000"])
+    want("the spans", len(spans_of(lines[:-9])), 5000)
+    if not 10 <= len(lines) - 9 <= 2500:
+        raise Failure(f"5000 spans in {len(lines) - 9} lines")
 
 
 CHECKS = [too_many_open_files, few_traces, most_lanes_and_shards, five_thousand_connections, two_closes, ends_before_a_tick]

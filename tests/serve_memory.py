@@ -8,7 +8,7 @@ from collector import ALL, Failure, body_of, post, want
 from serve_limits import side_by_side
 
 LIMIT = 200
-MOST = 250
+MOST = 300
 SPANS = 500
 NONE = 'policies = [{ name = "none", type = "latency", latency = { threshold_ms = 60000 } }]\n'
 

@@ -5,15 +5,15 @@ import gzip
 import json
 import os
 import re
-import shutil
 import socket
 import subprocess
 import tempfile
 import threading
 import time
 
-from collector import ALL, ERROR_SPAN, ERRORS, Failure, body_of, post, want
-from serve_admin import comes_to, free_port, listens, scrape
+from collector import ALL, ERROR_SPAN, ERRORS, Failure, body_of, is_listening, post, want
+from serve_admin import comes_to, free_port, scrape
+from serve_export import FAST, Backend, answer, send, until
 from serve_faults import library_of
 from serve_limits import at_most
 
@@ -56,20 +56,29 @@ def ticks_wait_for_spans(start):
     want("what was handed over", int(report["handed"]), spans)
 
 
+def set_shift(path, seconds):
+    """Sets the wall clock off by so many seconds, at once: the file is read at any time."""
+    with open(path + ".new", "w", encoding="utf-8") as file:
+        file.write(str(seconds))
+    os.replace(path + ".new", path)
+
+
 def waits_by_time_that_passes(start):
-    """A wall clock that is set back by an hour, and then forward by two, decides nothing late and nothing early; both are said."""
+    """A wall clock that is set back by an hour, and then forward by two, decides nothing late and nothing early: what is to wait for 4 seconds comes
+    within 3.5 to 30. Both are said."""
     with tempfile.TemporaryDirectory() as folder:
         shift = os.path.join(folder, "shift")
         surroundings = {"LD_PRELOAD": library_of("shifted_clock", folder), "SHIFT": shift}
-        collector = start('log = "text"\ndecision_wait_ms = 1500\ntick_ms = 100\n' + ALL, surroundings=surroundings)
+        collector = start('log = "text"\ndecision_wait_ms = 4000\ntick_ms = 100\n' + ALL, surroundings=surroundings)
         for number, seconds in enumerate((-3600, 7200)):
-            span = {"traceId": f"{number + 1:032x}", "spanId": f"{number + 1:016x}"}
+            span, began = {"traceId": f"{number + 1:032x}", "spanId": f"{number + 1:016x}"}, time.monotonic()
             want("the answer", collector.ask(post(body_of([span])))[::2], (200, "{}"))
-            with open(shift, "w", encoding="utf-8") as file:
-                file.write(str(seconds))
-            time.sleep(0.7)
-            want("the lines before the wait is over", printed(collector), number)
-            time.sleep(2)
+            set_shift(shift, seconds)
+            while printed(collector) == number:
+                at_most("the wait for a line", 30, began)
+                time.sleep(0.05)
+            if time.monotonic() - began < 3.5:
+                raise Failure(f"a line came after {time.monotonic() - began:.2f} s")
             want("the lines behind it", printed(collector), number + 1)
         want("the report", collector.close()[1], [2, 2, 0, 0, 0, 0, 0, 0, 0])
         jumps = [int(number) for number in re.findall(r" WARN clock_jumped by_ms=(\d+) ", collector.said)]
@@ -106,8 +115,10 @@ def is_logged(start):
     for form in ("text", "json"):
         collector = start(f'log = "{form}"\nqueue_capacity = 1\nshards = 1\n' + ALL)
         spans = [{"traceId": "1" * 32, "spanId": f"{number + 1:016x}"} for number in range(2000)]
-        collector.ask(post(body_of(spans)))
-        time.sleep(1.5)
+        _, _, answer = collector.ask(post(body_of(spans)))
+        if "partialSuccess" in answer:
+            comes_to("whether the full queue is said", lambda: "queue_full" in collector.says(), True)
+        time.sleep(1.5)  # (it is looked twice a second at what is to be said; nothing else may be)
         _, numbers = collector.close()
         events = [event_of(form, line) for line in collector.said.splitlines()]
         want("the events", [name for name, _ in events if name != "closing"], ["starting", "settings", "listening"] + ["queue_full"] * (numbers[3] > 0) + ["closed"])
@@ -130,6 +141,19 @@ def event_of(form, line):
     found = LINE.match(line)
     want(f"whether {line!r} is a line of the log", found is None, False)
     return found.group(3), {name: value.strip('"') for name, value in re.findall(r' (\w+)=(\d+|"[^"]*")', found.group(4))}
+
+
+def says_what_was_given_up(start):
+    """Spans of batches that the backend refuses for good are told in the log, once for all that are given up within a minute; others are handed over."""
+    backend = Backend([[answer(415)], [answer(400)]])
+    collector = start('log = "text"\n' + FAST + ALL + backend.settings())
+    for number in range(3):
+        send(collector, number)
+        until("the request", lambda wanted=number + 1: len(backend.requests) == wanted)
+        until("what is said", lambda: " spans_given_up " in collector.says())
+    want("the report", collector.close()[1], [3, 1, 0, 0, 0, 0, 0, 0, 2])
+    events = [event_of("text", line) for line in collector.said.splitlines()]
+    want("what is said", [(name, fields) for name, fields in events if "given_up" in name], [("spans_given_up", {"spans": "1"})])
 
 
 def says_what_cannot_be(start):
@@ -162,6 +186,7 @@ def listens_everywhere(start):
         ran = subprocess.Popen([start.program, "serve", config], stdin=subprocess.DEVNULL, stdout=subprocess.PIPE, stderr=subprocess.PIPE)
         want("the first events", [ran.stderr.readline().split()[2] for _ in range(3)], [b"starting", b"settings", b"listening"])
         hosts = ["127.0.0.1", "127.0.0.2"] + (["::1"] if os.path.exists("/proc/net/if_inet6") and "00000000000000000000000000000001" in open("/proc/net/if_inet6").read() else [])
+        comes_to("whether it listens at its second address", lambda: is_listening(f":{admin}"), True)
         for host in hosts:
             for where in (port, admin):
                 socket.create_connection((host, where), timeout=60).close()
@@ -178,7 +203,6 @@ def output_that_stalls(start):
     reader, writer = os.pipe()
     collector = start(f'metrics = "127.0.0.1:{metrics}"\ndecision_wait_ms = 3600000\nroot_wait_ms = 1\ntick_ms = 50\n' + ALL, output=writer)
     os.close(writer)
-    listens(metrics)
     told = lambda name: scrape(metrics)[name]
     want("before anything", [told("tsc_output_stalled_seconds"), told("tsc_oldest_waiting_seconds")], [0, 0])
     began = time.monotonic()
@@ -220,18 +244,15 @@ def lines_of_the_log(start):
             os.close(writer)
             names = ["tsc_clock_jumps_total", 'tsc_log_lines_total{level="warn"}', 'tsc_log_lines_total{level="error"}']
             told = lambda: [numbers[name] for numbers in [scrape(metrics)] for name in names]
-            listens(metrics)
             want("before", told(), [0, 0, 0])
-            with open(shift, "w", encoding="utf-8") as file:
-                file.write("-3600")
+            set_shift(shift, -3600)
             comes_to("behind a jump", told, [1, warnings, 0])
             want("the answer", collector.ask(post(body_of([ERROR_SPAN])))[0], 200)
-            comes_to("behind a write that failed", told, [1, warnings, errors])
+            comes_to("behind a write that failed, and a span given up", told, [1, 2 * warnings, errors])
             want("the answer to /close", collector.ask(post(b"", "/close"))[::2], (200, "{}"))
             collector.end(1)
-            want("the lines", (collector.said.count(" WARN "), collector.said.count(" ERROR output_failed\n")), (warnings, errors))
+            want("the lines", (collector.said.count(" WARN "), collector.said.count(" ERROR output_failed\n")), (2 * warnings, errors))
 
 
-CHECKS = [listens_everywhere, ticks_wait_for_spans, batches_of_the_collector, is_logged, says_what_cannot_be, output_that_stalls] + (
-    [waits_by_time_that_passes, lines_of_the_log] if shutil.which("cc") else []
-)
+CHECKS = [listens_everywhere, ticks_wait_for_spans, batches_of_the_collector, is_logged, says_what_was_given_up, says_what_cannot_be, output_that_stalls]
+CHECKS += [waits_by_time_that_passes, lines_of_the_log]

@@ -3,7 +3,7 @@
 
     tests/settings.py
 
-It compares the README's table and examples/every_key.toml with them, prints a line for each difference, and ends with status 1 where there is one.
+It compares docs/CONFIGURATION.md and examples/every_key.toml with them, prints a line for each difference, and ends with status 1 where there is one.
 """
 import re
 import sys
@@ -13,6 +13,7 @@ from pathlib import Path
 from tables import policy_settings, policy_types
 
 TOP = Path(__file__).resolve().parent.parent
+PAGE = TOP / "docs/CONFIGURATION.md"
 DEFINITION = TOP / "crates/tsc_config/specs/Settings.antt"
 CACHES = "decision_cache"
 EXPORT = "export"
@@ -47,11 +48,11 @@ def export_numbers():
     return {key: bounds(row) for key, row in rows}
 
 
-def readme_numbers():
-    """What the README's table says of each key whose default is a number: each name of a row's first cell but that of the caches' table."""
+def page_numbers():
+    """What the page's tables say of each key whose default is a number: each name before the colon of a row's first cell, but that of the caches' table."""
     found = {}
-    for line in (TOP / "README.md").read_text().splitlines():
-        row = re.match(r"\| (`[^|]*) \| (?:each )?(\d+) to (\d+)[^|]* \| (\d+)(?: \(off\))? \|", line)
+    for line in PAGE.read_text().splitlines():
+        row = re.match(r"\| (`[^|:]*): [^|]* \| (\d+) to (\d+)[^|]* \| (\d+)(?: \(off\))? \|", line)
         for key in re.findall(r"`(\w+)`", row.group(1)) if row else []:
             if key != CACHES:
                 found.setdefault(key, []).append(bounds(f"{row.group(4)} {row.group(2)} {row.group(3)}"))
@@ -63,35 +64,35 @@ def export_truths():
     return set(re.findall(r'^  pub \w+ : IsTruthAt given \(codes "(\w+)"\) ', DEFINITION.read_text(), re.M))
 
 
-def texts_of_three():
-    """Of each key of one of three texts these, that by default first."""
-    rows = re.findall(r'get_member \(codes "(\w+)"\) members ≡ Some \(string \(codes "(\w+)"\)\)', DEFINITION.read_text())
+def texts_at(table):
+    """Of each key whose texts the definition names one by one these, that by default first; `table` is what it calls the table of the key."""
+    rows = re.findall(rf'get_member \(codes "(\w+)"\) {table} ≡ Some \(string \(codes "(\w+)"\)\)', DEFINITION.read_text())
     return {key: [text for other, text in rows if other == key] for key, _ in rows}
 
 
 def other_keys():
-    """Of each key of one of some texts the default and the others, and of each key of a truth value its default, as the README writes them."""
+    """Of each key of one of some texts the default and the others, and of each key of a truth value its default, as the page writes them."""
     text = DEFINITION.read_text()
     rows = re.findall(r'^  pub \w+ : IsChoiceAt members \(codes "(\w+)"\) \(codes "(\w+)"\) \(codes "(\w+)"\) ', text, re.M)
-    choices = {key: texts for key, *texts in rows} | texts_of_three()
+    choices = {key: texts for key, *texts in rows} | texts_at("members") | texts_at("given")
     truths = re.findall(r'^  pub \w+ : IsTruthAt members \(codes "(\w+)"\) ', text, re.M)
     return {key: tuple(f"`{it}`" for it in texts) for key, texts in choices.items()} | {key: ("false", "true") for key in truths}
 
 
 def empty_texts():
-    """The keys of texts that are empty by default, but for that of which the README says that there is none."""
+    """The keys of texts that are empty by default, but for that of which the page says that there is none."""
     return set(re.findall(r'^  pub \w+ : IsTextAt members \(codes "(\w+)"\) \[\] ', DEFINITION.read_text(), re.M)) - {"admin"}
 
 
-def readme_empty_texts():
-    """The keys of which the README's table says that they are empty by default."""
-    return re.findall(r'^\| `(\w+)`: [^|]* \| [^|]* \| `""`[^|]* \|', (TOP / "README.md").read_text(), re.M)
+def page_empty_texts():
+    """The keys of which the page's tables say that they are empty by default."""
+    return re.findall(r'^\| `(\w+)`: [^|]* \| [^|]* \| `""`[^|]* \|', PAGE.read_text(), re.M)
 
 
-def readme_others():
-    """What the README's table says of each of these keys: its default, and how many of its values are told."""
+def page_others():
+    """What the page's tables say of each of these keys: its default, and how many of its values are told."""
     found = {}
-    for line in (TOP / "README.md").read_text().splitlines():
+    for line in PAGE.read_text().splitlines():
         row = re.match(r"\| `(\w+)`[^|]* \| ([^|]*) \| (`\w+`|false)[^|]* \|", line)
         if row and row.group(1) in other_keys():
             told = [value for value in other_keys()[row.group(1)] if value in row.group(2)]
@@ -99,19 +100,19 @@ def readme_others():
     return found
 
 
-def readme_types():
-    """Of each type of policy what the README's table of their settings names."""
-    rows = [line.split("|") for line in (TOP / "README.md").read_text().splitlines() if re.match(r"\| `\w+` \|(?:[^|]*\|){3}$", line)]
+def page_types():
+    """Of each type of policy what the page's table of their settings names."""
+    rows = [line.split("|") for line in PAGE.read_text().splitlines() if re.match(r"\| `\w+` \|(?:[^|]*\|){3}$", line)]
     return {row[1].strip(" `"): re.findall(r"`(\w+)`", row[2]) for row in rows if row[1].strip(" `") in policy_types()}
 
 
 def type_differences():
-    """A line for each type of policy of which the README's table or the example of every key has other settings than the definition."""
+    """A line for each type of policy of which the page's table or the example of every key has other settings than the definition."""
     example = (TOP / "examples/every_key.toml").read_text()
     for name, settings in policy_settings().items():
-        said = readme_types().get(name)
+        said = page_types().get(name)
         if said is None or not {it.key for it in settings} <= set(said):
-            yield f"README.md has {said} for {name}, the definition {[it.key for it in settings]}"
+            yield f"docs/CONFIGURATION.md has {said} for {name}, the definition {[it.key for it in settings]}"
         if f'type = "{name}"' not in example:
             yield f"examples/every_key.toml has no policy of type {name}"
 
@@ -120,21 +121,21 @@ def differences():
     """A line for each difference."""
     yield from type_differences()
     wanted = top_numbers() | cache_numbers() | export_numbers()
-    said = readme_numbers()
+    said = page_numbers()
     if not top_numbers() or not cache_numbers() or not export_numbers():
         yield f"{DEFINITION} has no rows"
     for key in sorted(wanted.keys() | said.keys()):
         if said.get(key) != [wanted.get(key)]:
-            yield f"README.md has {said.get(key)} for {key}, the definition {wanted.get(key)} (default, least, greatest)"
+            yield f"docs/CONFIGURATION.md has {said.get(key)} for {key}, the definition {wanted.get(key)} (default, least, greatest)"
     for key, values in other_keys().items():
-        if readme_others().get(key) != [(values[0], len(values))]:
-            yield f"README.md has {readme_others().get(key)} for {key}, whose values are {', '.join(values)} (default, values told)"
-    yield from (f"README.md and the definition differ in {key}, whether it is empty by default" for key in sorted(empty_texts() ^ set(readme_empty_texts())))
+        if page_others().get(key) != [(values[0], len(values))]:
+            yield f"docs/CONFIGURATION.md has {page_others().get(key)} for {key}, whose values are {', '.join(values)} (default, values told)"
+    yield from (f"docs/CONFIGURATION.md and the definition differ in {key}, whether it is empty by default" for key in sorted(empty_texts() ^ set(page_empty_texts())))
     example = tomllib.loads((TOP / "examples/every_key.toml").read_text())
     for place, keys in ((example, top_numbers()), (example.get(CACHES, {}), cache_numbers()), (example.get(EXPORT, {}), export_numbers())):
         numbers = {key for key, value in place.items() if type(value) is int}
         yield from (f"examples/every_key.toml and the definition differ in {key}" for key in sorted(numbers ^ (keys.keys() - other_names())))
-    yield from (f"examples/every_key.toml has no {key}" for key in sorted((other_keys().keys() | empty_texts()) - example.keys()))
+    yield from (f"examples/every_key.toml has no {key}" for key in sorted((other_keys().keys() | empty_texts()) - example.keys() - example.get(EXPORT, {}).keys()))
 
 
 if __name__ == "__main__":

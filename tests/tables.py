@@ -30,6 +30,18 @@ def number_rows():
     return {name: (key, int(least), int(greatest)) for name, key, least, greatest in rows}
 
 
+def number_defaults():
+    """Of each key of a whole number its default."""
+    rows = re.findall(r'^number_row number_is\.\w+ = record { name = codes "(\w+)"; default = (\d+);', text_of("Tables"), re.M)
+    return {key: int(default) for key, default in rows}
+
+
+def text_defaults():
+    """Of each key of a text that has a default, or of one of some texts, that default."""
+    rows = re.findall(r'^(?:choice|text)_row \w+\.\w+ = record { name = codes "(\w+)"; default = (?:codes "([^"]*)"|\[\])', text_of("Tables"), re.M)
+    return dict(rows)
+
+
 def text_keys():
     """Of each key of one of two texts, or of a text with a default, by its name in the code, its key."""
     return dict(re.findall(r'^(?:choice|text)_row (?:choice|text)_is\.(\w+) = record { name = codes "(\w+)"', text_of("Tables"), re.M))

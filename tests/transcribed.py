@@ -231,7 +231,7 @@ ROWS = [
     ("flags, errors or a truth", [FLAGS, ERROR, TRUTH], {2, 6, 8, 10}),
     ("a tenth or errors", [share(10), ERROR], chosen(10**5) | {2, 10}),
     ("a tenth of a team, or errors", [made_of("and", TEAM_A, share(50)), ERROR], chosen(5 * 10**5) & {5, 7} | {2, 10}),
-    # The README's list of policies, without its conditions in OTTL and composite.
+    # The list of policies in the processor's README, without its conditions in OTTL and composite.
     ("the list of policies but for all", [RATHER_SLOW, FIFTY_TO_HUNDRED, ERROR, TWO_VALUES, MATCHING, SPANS, STATE, TRUTH, AND], {2, 3, 4, 5, 6, 8, 10}),
     ("the list of policies", [ALWAYS, RATHER_SLOW, FIFTY_TO_HUNDRED, share(10), ERROR_OR_UNSET, TWO_VALUES, MATCHING, rate(35), bytes_of(1048576), NO_PROBES, SPANS, STATE, TRUTH, AND, DROP_PROBES], EVERY - {7}),
     # Its practical example: other teams keep all; of team_a's probes few are kept, of its noisy endpoint few, and what is slow or an error.

@@ -4,7 +4,7 @@ _tsc()
     local cur=${COMP_WORDS[COMP_CWORD]}
     COMPREPLY=()
     if [ "$COMP_CWORD" -eq 1 ]; then
-        mapfile -t COMPREPLY < <(compgen -W "serve replay validate close help version" -- "$cur")
+        mapfile -t COMPREPLY < <(compgen -W "serve replay validate close show help version" -- "$cur")
     elif [ "$COMP_CWORD" -eq 2 ]; then
         case ${COMP_WORDS[1]} in
             serve|replay|validate|close)

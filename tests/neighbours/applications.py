@@ -169,8 +169,8 @@ def the_three_steps(here):
 
 
 def the_second_tier(here):
-    """The configuration of the second tier as docs/OPERATING.md has it, behind a Collector that speaks gRPC to it, as the first tier does."""
-    page = (TOP / "docs" / "OPERATING.md").read_text("utf-8")
+    """The configuration of the second tier as docs/operating/SCALING.md has it, behind a Collector that speaks gRPC to it, as the first tier does."""
+    page = (TOP / "docs" / "operating" / "SCALING.md").read_text("utf-8")
     block = page.split("on each machine of the second tier")[1].split("\n\n")[1]
     collector = here.start(SETTINGS)
     ports = {4317: free_port(), 4328: collector.port}

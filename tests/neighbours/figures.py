@@ -118,7 +118,7 @@ def questions_by_jq(here):
 
 
 def another_configuration_over_kept_lines(here):
-    """Each command of docs/OPERATING.md that replays kept lines by another configuration keeps the traces with an error, of 2,000 that were kept."""
+    """Each command of docs/operating/RUN.md that replays kept lines by another configuration keeps the traces with an error, of 2,000 that were kept."""
     collector, failed = here.start(SETTINGS), 0
     for first in range(0, 2000, 100):
         spans = []
@@ -128,7 +128,7 @@ def another_configuration_over_kept_lines(here):
             failed += 2 * (at % 7 == 0)
         want("the answer", collector.ask(post(body_of(spans)))[0], 200)
     collector.close()
-    page = (RECIPES.parent.parent / "docs" / "OPERATING.md").read_text("utf-8")
+    page = (RECIPES.parent.parent / "docs" / "operating" / "RUN.md").read_text("utf-8")
     commands = re.findall(r"(?m)^    (awk .* \| tsc replay new\.toml) > would\.txt$", page)
     want("commands", len(commands), 2)
     (here.folder / "new.toml").write_text('policies = [{ name = "errors", type = "status_code", status_code = { status_codes = ["ERROR"] } }]\n', "utf-8")

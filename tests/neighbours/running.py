@@ -110,6 +110,7 @@ class Here:
 
     def __init__(self, program, fetched, folder):
         self.fetched, self.folder = Path(fetched), folder
+        self.clients = Path(__file__).resolve().parent
         self.packages = self.fetched / "packages"
         self.libraries = f"{self.packages}/usr/lib/x86_64-linux-gnu:{self.packages}/lib/x86_64-linux-gnu"
         self.program = program

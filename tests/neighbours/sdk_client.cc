@@ -1,4 +1,5 @@
-// Sends traces by OpenTelemetry's C++ SDK: sdk_client URL TRACES. Each has two spans, each fifth an error. It prints the id of each span.
+// Sends traces by OpenTelemetry's C++ SDK: sdk_client URL TRACES [binary]. Each has two spans, each fifth an error. It prints the id of each span. The
+// exporter writes JSON, or protobuf (binary).
 #include <opentelemetry/exporters/otlp/otlp_http_exporter_factory.h>
 #include <opentelemetry/exporters/otlp/otlp_http_exporter_options.h>
 #include <opentelemetry/sdk/resource/resource.h>
@@ -22,11 +23,11 @@ static void print_id(const trace::SpanContext& context) {
   std::cout << std::string(text, sizeof text) << "\n";
 }
 
-int main(int, char** arguments) {
+int main(int count, char** arguments) {
   const int traces = atoi(arguments[2]);
   otlp::OtlpHttpExporterOptions options;
   options.url = arguments[1];
-  options.content_type = otlp::HttpRequestContentType::kJson;
+  options.content_type = count > 3 ? otlp::HttpRequestContentType::kBinary : otlp::HttpRequestContentType::kJson;
   sdk::trace::BatchSpanProcessorOptions batches;
   batches.max_queue_size = 65536;
   batches.schedule_delay_millis = std::chrono::milliseconds(200);

@@ -1,7 +1,7 @@
 #!/usr/bin/env bash
-# Builds FOLDER/sdk_client, a program over OpenTelemetry's own C++ SDK and its OTLP/HTTP exporter in JSON (Debian's packages of bookworm-backports).
+# Builds FOLDER/sdk_client, a program over OpenTelemetry's own C++ SDK and its OTLP/HTTP exporter (Debian's packages of bookworm-backports).
 #     sdk_client.sh FOLDER
-# Then `LD_LIBRARY_PATH=FOLDER/root/usr/lib/x86_64-linux-gnu FOLDER/sdk_client URL TRACES` sends so many traces of two spans and prints their ids.
+# Then `LD_LIBRARY_PATH=FOLDER/root/usr/lib/x86_64-linux-gnu FOLDER/sdk_client URL TRACES [binary]` sends traces of two spans and prints their ids.
 set -eu
 here=$(cd "$(dirname "$0")" && pwd)
 mkdir -p "$1"

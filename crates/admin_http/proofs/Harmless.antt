@@ -5,7 +5,7 @@ use Rattle.std.specs.Prelude.{bytes_eq, codes, if◌then◌else◌}
 use Rattle.http_text.specs.Lines.{Cut, Whole, Waits, TooLong, cut, head_len}
 use Rattle.http_text.specs.declared.request.HeadVerdict.{HeadVerdict}
 use Rattle.http_text.specs.declared.request.HeadVerdict.TheVariants.{Refused, Close as CloseThere, Post as PostThere}
-use Rattle.http_text.specs.declared.request.RequestRefusal.TheVariants.{HeadTooLarge, BadRequest, NotFound as NotFoundThere, MethodNotAllowed, Forbidden as ForbiddenThere, UnsupportedMediaType, GzipIsOff, UnsupportedCoding, BodyTooLarge, NotGzip}
+use Rattle.http_text.specs.declared.request.RequestRefusal.TheVariants.{HeadTooLarge, BadRequest, NotFound as NotFoundThere, MethodNotAllowed, Forbidden as ForbiddenThere, UnsupportedMediaType, NeitherMediaType, GzipIsOff, UnsupportedCoding, BodyTooLarge, NotGzip}
 use Rattle.admin_http.specs.declared.asked.Method.TheVariants.{Get}
 use Rattle.admin_http.specs.declared.asked.Access.{Access}
 use Rattle.admin_http.specs.declared.asked.Access.TheVariants.{Numbers}
@@ -41,6 +41,7 @@ refused_harmless (Refused NotFoundThere is_head) = refl
 refused_harmless (Refused MethodNotAllowed is_head) = refl
 refused_harmless (Refused ForbiddenThere is_head) = refl
 refused_harmless (Refused UnsupportedMediaType is_head) = refl
+refused_harmless (Refused NeitherMediaType is_head) = refl
 refused_harmless (Refused GzipIsOff is_head) = refl
 refused_harmless (Refused UnsupportedCoding is_head) = refl
 refused_harmless (Refused BodyTooLarge is_head) = refl

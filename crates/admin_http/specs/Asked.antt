@@ -66,7 +66,7 @@ AskedAs access text None a = (h : RequestHead) × IsHead text h × (a ≡ asked_
 
 -- what is allowed at the address of the traces makes no difference here
 abbrev pub nothing : Allowed
-nothing = record { gzip = false; close = false; body_limit = 0 }
+nothing = record { gzip = false; protobuf = false; close = false; body_limit = 0 }
 
 -- what the text of a head asks for
 abbrev pub IsAsked : Access → (text : List ℕ) → AdminRequest → Type 0

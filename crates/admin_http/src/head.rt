@@ -18,6 +18,7 @@ use httparse::spans::EMPTY_HEADER_SPAN;
 /// What is allowed makes no difference: a verdict only tells whether the text is a head.
 const NOTHING: Allowed = Allowed {
     gzip: false,
+    protobuf: false,
     close: false,
     body_limit: 0,
 };

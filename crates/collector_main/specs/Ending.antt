@@ -15,12 +15,13 @@ use Rattle.collector_main.specs.declared.program.Outcome.{Outcome}
 use Rattle.collector_main.specs.declared.program.Outcome.TheVariants.{Done, SinkDown, Usage, Unreadable, Configuration, Script, NoMemory, CounterOverflow, CannotListen, CannotWrite, Valid, Faulty}
 use Rattle.collector_main.specs.declared.program.Outcome.TheVariants as is
 use Rattle.collector_main.specs.declared.program.Command.{Command}
-use Rattle.collector_main.specs.declared.program.Command.TheVariants.{Replay, Serve, Validate, Close, Help, Version}
+use Rattle.collector_main.specs.declared.program.Command.TheVariants.{Replay, Serve, Validate, Close, Show, Help, Version}
 use Rattle.export_report.specs.Moves.{IsMoved, CannotMove}
 use Rattle.collector_main.specs.Outcomes.{outcome_of, served_to, exit_status}
 use Rattle.collector_main.specs.Configuration.{FileFails, IsConfigOf}
 use Rattle.collector_main.specs.Validating.{FileTells, fault_number}
 use Rattle.collector_main.specs.Closing.{FileCloses}
+use Rattle.collector_main.specs.Showing.{InputShows}
 use Rattle.collector_main.specs.declared.configuration.FileFault.{FileFault}
 use Rattle.config_shards.specs.Shards.{settings_by}
 use Rattle.script_session.specs.Replay.{ReplayRun, RunEnds}
@@ -67,9 +68,9 @@ report_text report = concat (map (count_line report) counts)
 
 -- what can be asked for
 abbrev pub help_text : List ℕ
-help_text = codes "tsc: a tail-sampling trace collector\n\n  tsc serve CONFIG     takes requests until it is closed, and prints the spans that it keeps and a report\n  tsc replay CONFIG    runs a script of requests from standard input, and prints the same and its replies\n  tsc validate CONFIG  prints ok, or a line for each fault of the configuration\n  tsc close CONFIG     asks the collector that runs by the configuration to close, and waits for its answer\n  tsc help             prints this text\n  tsc version          prints the version\n\nCONFIG is the path of a TOML file. The exit status is 0 where all was done, 1 where a write failed, 2 for wrong\narguments, 3 for a refused configuration, 4 for a refused script, 5 for no memory, 6 where the address can't be\nlistened at or the collector doesn't answer that it closes, and 7 for a full book.\n"
+help_text = codes "tsc: a tail-sampling trace collector\n\n  tsc serve CONFIG     takes requests until it is closed, and prints the spans that it keeps and a report\n  tsc replay CONFIG    runs a script of requests from standard input, and prints the same and its replies\n  tsc validate CONFIG  prints ok, or a line for each fault of the configuration\n  tsc close CONFIG     asks the collector that runs by the configuration to close, and waits for its answer\n  tsc show             prints a request in protobuf, from standard input, as its line of JSON\n  tsc help             prints this text\n  tsc version          prints the version\n\nCONFIG is the path of a TOML file. The exit status is 0 where all was done, 1 where a write failed, 2 for wrong\narguments, 3 for a refused configuration, 4 for a refused script or request, 5 for no memory, 6 where the address\ncan't be listened at or the collector doesn't answer that it closes, and 7 for a full book.\n"
 
--- the last text of each outcome: nothing once a write of the run failed
+-- the last text of each outcome: nothing once a write of the run failed; why a body isn't shown is said elsewhere
 abbrev pub text_of : Outcome → List ℕ
 text_of (Done report) = report_text report
 text_of SinkDown = []
@@ -85,6 +86,8 @@ text_of Valid = codes "ok\n"
 text_of (Faulty lines) = string_bytes lines
 text_of is.Help = help_text
 text_of is.Closed = []
+text_of (is.Shown line) = line.items
+text_of (is.NotShown said) = []
 text_of is.CannotClose = codes "tsc: cannot close\n"
 text_of is.Version = codes "tsc 0.1.0\n"
 
@@ -121,6 +124,7 @@ unfoldable pub asked_alone : (word : List ℕ) → Option Command
 asked_alone word =
     if bytes_eq word (codes "help") || (bytes_eq word (codes "-h") || bytes_eq word (codes "--help")) then Some Help
     else if bytes_eq word (codes "version") || bytes_eq word (codes "--version") then Some Version
+    else if bytes_eq word (codes "show") then Some Show
     else None
 
 -- what a word asks for that stands before the path of a configuration
@@ -295,20 +299,21 @@ Serves course CannotListen = OnlyRead course
 Serves course CannotWrite = OnlyRead course
 Serves course outcome = RanOn course outcome
 
--- how an outcome arises by what is asked for
-abbrev pub Does : Course → Command → Outcome → Type 0
-Does course Replay outcome = Replays course outcome
-Does course Serve outcome = Serves course outcome
-Does course Validate outcome = FileTells course.file outcome × NothingDone course
-Does course Close outcome = FileCloses course.file outcome × NothingDone course
-Does course Help outcome = (outcome ≡ is.Help) × NothingDone course
-Does course Version outcome = (outcome ≡ is.Version) × NothingDone course
+-- how an outcome arises by what is asked for; `input` is what standard input has, where that is known
+abbrev pub Does : Course → (input : Option (List ℕ)) → Command → Outcome → Type 0
+Does course input Replay outcome = Replays course outcome
+Does course input Serve outcome = Serves course outcome
+Does course input Validate outcome = FileTells course.file outcome × NothingDone course
+Does course input Close outcome = FileCloses course.file outcome × NothingDone course
+Does course input Show outcome = InputShows input outcome × NothingDone course
+Does course input Help outcome = (outcome ≡ is.Help) × NothingDone course
+Does course input Version outcome = (outcome ≡ is.Version) × NothingDone course
 
 -- how an outcome arises: the arguments are wrong exactly where they ask for nothing that there is, and then nothing is
 -- done
-abbrev pub CameTo : Course → Outcome → Type 0
-CameTo course Usage = AsksNothing course.arguments × NothingDone course
-CameTo course outcome = (command : Command) × AsksFor course.arguments command × Does course command outcome
+abbrev pub CameTo : Course → (input : Option (List ℕ)) → Outcome → Type 0
+CameTo course input Usage = AsksNothing course.arguments × NothingDone course
+CameTo course input outcome = (command : Command) × AsksFor course.arguments command × Does course input command outcome
 
 -- ---- the end of the program
 
@@ -317,11 +322,11 @@ abbrev pub Finishes : (taken : Option (List ℕ)) → Outcome → (taken_last : 
 Finishes taken outcome taken_last status = (written : Bool) × WritesText taken (text_of outcome) written taken_last × (status ≡ exit_status outcome written)
 
 -- the program did what the arguments say by what it read of the file, and then wrote the text of the outcome
-pub record EndsWith (arguments : List (List ℕ)) (unread unread_after : KnownReader) (taken taken_last : Option (List ℕ)) (status : ℕ) : Type 0 where
+pub record EndsWith (arguments : List (List ℕ)) (input : Option (List ℕ)) (unread unread_after : KnownReader) (taken taken_last : Option (List ℕ)) (status : ℕ) : Type 0 where
   pub outcome : Outcome
   pub file : Result (List ℕ) FileFault
   pub between : Option (List ℕ)
-  pub came_to : CameTo (record { arguments = arguments; file = file; unread = unread; unread_after = unread_after; taken = taken; taken_after = between }) outcome
+  pub came_to : CameTo (record { arguments = arguments; file = file; unread = unread; unread_after = unread_after; taken = taken; taken_after = between }) input outcome
   pub finishes : Finishes between outcome taken_last status
 
 -- there was no memory for the last text; nothing was read, and at most the text that says so was written
@@ -329,6 +334,6 @@ abbrev pub HasNoRoom : (unread unread_after : KnownReader) (taken taken_last : O
 HasNoRoom unread unread_after taken taken_last status = (unread_after ≡ unread) × Finishes taken NoMemory taken_last status
 
 -- the end of the program
-abbrev pub Ends : (arguments : List (List ℕ)) → (unread unread_after : KnownReader) (taken taken_last : Option (List ℕ)) → (status : ℕ) → Type 0
-Ends arguments unread unread_after taken taken_last status =
-    EndsWith arguments unread unread_after taken taken_last status ⊎ HasNoRoom unread unread_after taken taken_last status
+abbrev pub Ends : (arguments : List (List ℕ)) → (input : Option (List ℕ)) → (unread unread_after : KnownReader) (taken taken_last : Option (List ℕ)) → (status : ℕ) → Type 0
+Ends arguments input unread unread_after taken taken_last status =
+    EndsWith arguments input unread unread_after taken taken_last status ⊎ HasNoRoom unread unread_after taken taken_last status

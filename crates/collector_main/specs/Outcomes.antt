@@ -6,7 +6,7 @@ use Rattle.script_session.specs.declared.fault.ReplayFault.TheVariants.{NoMemory
 use Rattle.pipeline.specs.declared.fault.ServeFault.{ServeFault}
 use Rattle.pipeline.specs.declared.fault.ServeFault.TheVariants as serve_is
 use Rattle.collector_main.specs.declared.program.Outcome.{Outcome}
-use Rattle.collector_main.specs.declared.program.Outcome.TheVariants.{Done, SinkDown, Usage, Unreadable, Configuration, Script, NoMemory, CounterOverflow, CannotListen, CannotWrite, Valid, Faulty, Help, Version, Closed, CannotClose}
+use Rattle.collector_main.specs.declared.program.Outcome.TheVariants.{Done, SinkDown, Usage, Unreadable, Configuration, Script, NoMemory, CounterOverflow, CannotListen, CannotWrite, Valid, Faulty, Help, Version, Closed, CannotClose, Shown, NotShown}
 
 -- how the program ends after a script's run with this answer
 abbrev pub outcome_of : Result Report ReplayFault → Outcome
@@ -40,5 +40,7 @@ exit_status (Faulty lines) written = 3
 exit_status Closed written = 0
 exit_status CannotClose written = 6
 exit_status Valid written = if written then 0 else 1
+exit_status (Shown line) written = if written then 0 else 1
+exit_status (NotShown said) written = 4
 exit_status Help written = if written then 0 else 1
 exit_status Version written = if written then 0 else 1

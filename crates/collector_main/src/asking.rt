@@ -15,12 +15,13 @@ tsc: a tail-sampling trace collector
   tsc replay CONFIG    runs a script of requests from standard input, and prints the same and its replies
   tsc validate CONFIG  prints ok, or a line for each fault of the configuration
   tsc close CONFIG     asks the collector that runs by the configuration to close, and waits for its answer
+  tsc show             prints a request in protobuf, from standard input, as its line of JSON
   tsc help             prints this text
   tsc version          prints the version
 
 CONFIG is the path of a TOML file. The exit status is 0 where all was done, 1 where a write failed, 2 for wrong
-arguments, 3 for a refused configuration, 4 for a refused script, 5 for no memory, 6 where the address can't be
-listened at or the collector doesn't answer that it closes, and 7 for a full book.
+arguments, 3 for a refused configuration, 4 for a refused script or request, 5 for no memory, 6 where the address
+can't be listened at or the collector doesn't answer that it closes, and 7 for a full book.
 ";
 
 /// What the arguments ask for, and the path of the configuration, if there is one.
@@ -45,6 +46,7 @@ fn asked_alone(word: &str) -> Option<Command>
     match word {
         "help" | "-h" | "--help" => Some(Command::Help),
         "version" | "--version" => Some(Command::Version),
+        "show" => Some(Command::Show),
         _ => None,
     }
 }

@@ -2,7 +2,8 @@
 //! replay CONFIG` runs a script of requests and moments from standard input in one thread. Both print the spans that
 //! they keep as lines of JSON, which `serve` can send to a backend as well, or instead, and a report of every span's
 //! end; a replay prints its replies, too. `tsc validate CONFIG` prints a line for each fault of a configuration; `tsc
-//! close CONFIG` asks a running collector to close; `tsc help` and `tsc version` print what they say.
+//! close CONFIG` asks a running collector to close; `tsc show` prints a request in protobuf as JSON; `tsc help` and
+//! `tsc version` print what they say.
 #![tactic(auto)]
 
 mod asking;
@@ -15,6 +16,7 @@ mod opening;
 mod program;
 mod running;
 mod sending;
+mod showing;
 mod validating;
 
 use crate::program::{Surroundings, program, without_memory};

@@ -7,9 +7,10 @@ ghost use Rattle.collector_main.specs.Configuration.{file_of};
 use crate::configuration::FileFault;
 use crate::logging::{say_fault, say_listening, say_settings};
 use admin_http::Access;
+use collector_board::{Board, OutputStall, StopMark};
 use collector_serve::{
-    Board, Charge, ClosingDoor, EventWriter, MEMORY_ACCOUNT, OutputStall, StopMark, close_at_end,
-    end_admin, listen, start_admin, start_log_watch, start_memory_watch,
+    Charge, ClosingDoor, EventWriter, MEMORY_ACCOUNT, close_at_end, end_admin, listen, start_admin,
+    start_log_watch, start_memory_watch,
 };
 use config_text::settings_in_force;
 use lane_driver::Loads;

@@ -11,11 +11,12 @@ use crate::asking::{HELP, VERSION, asked};
 use crate::closing::close_by;
 use crate::collecting::serve_by;
 use crate::configuration::{FileFault, config_of, read_file};
+use crate::showing::show_by;
 use crate::validating::told_of;
 use config_faults::ConfigFault;
 use drop_ledger::{Count, Report};
 use itoa::Buffer;
-use lane_seq::put;
+use otlp_reply::put;
 use pipeline::Machine;
 use script_session::{ReplayFault, replay_run};
 use span_ids::Reason;
@@ -41,6 +42,8 @@ pub enum Command {
     Validate,
     /// To ask a running collector to close.
     Close,
+    /// To show a request in protobuf as JSON.
+    Show,
     /// To tell what can be asked for.
     Help,
     /// To tell its version.
@@ -79,6 +82,10 @@ pub enum Outcome {
     Closed,
     /// It didn't, or there is none.
     CannotClose,
+    /// The body is a request, of which this is the line.
+    Shown(Vec<u8>),
+    /// It is none, or wasn't read: this line, on standard error, says why.
+    NotShown(String),
     /// It was told what can be asked for.
     Help,
     /// The version was told.
@@ -117,7 +124,7 @@ pub fn program<
     around: Surroundings<Input, Errors>,
     writer: Writer,
 ) -> (Writer, u8)
-    ensures { Ends (map string_bytes arguments.now) (Script.given reader.old) (Script.given reader.new) (Writer.contents writer) (Writer.contents result.0) result.1 }
+    ensures { Ends (map string_bytes arguments.now) (Input.Read.remaining around.input) (Script.given reader.old) (Script.given reader.new) (Writer.contents writer) (Writer.contents result.0) result.1 }
 {
     let Ok(mut text) = Vec::with_capacity(alloc, TEXT_ROOM) else {
         return (without_memory(writer), 5);
@@ -172,8 +179,11 @@ fn exit_status(outcome: &Outcome, written: bool) -> u8
         Outcome::CannotWrite => 1,
         Outcome::Faulty(_) => 3,
         Outcome::Closed => 0,
+        Outcome::NotShown(_) => 4,
         Outcome::CannotClose => 6,
-        Outcome::Valid | Outcome::Help | Outcome::Version => { if written { 0 } else { 1 } }
+        Outcome::Valid | Outcome::Shown(_) | Outcome::Help | Outcome::Version => {
+            if written { 0 } else { 1 }
+        }
     }
 }
 
@@ -204,7 +214,7 @@ fn run<
       unread_after = Script.given reader.new;
       taken = Writer.contents writer;
       taken_after = Writer.contents result.0;
-    }) result.1 }
+    }) (Input.Read.remaining around.input) result.1 }
 {
     let Some((command, path)) = asked(arguments) else {
         return (writer, Outcome::Usage);
@@ -214,6 +224,7 @@ fn run<
         Command::Serve => serve_by(rt, alloc, path, read_file(rt, alloc, path), around, writer),
         Command::Validate => (writer, told_of(alloc, path, read_file(rt, alloc, path))),
         Command::Close => (writer, close_by(rt, alloc, read_file(rt, alloc, path))),
+        Command::Show => (writer, show_by(alloc, around)),
         Command::Help => (writer, Outcome::Help),
         Command::Version => (writer, Outcome::Version),
     }
@@ -288,6 +299,8 @@ fn say<S: Sink>(lines: &mut LineSink<S>, text: &mut Vec<u8>, outcome: &Outcome) 
         Outcome::Faulty(told) => say_told(lines, told.as_str()),
         Outcome::Closed => true,
         Outcome::CannotClose => hand_line(lines, b"tsc: cannot close\n"),
+        Outcome::Shown(line) => say_line(lines, line),
+        Outcome::NotShown(_) => true,
         Outcome::Help => hand_line(lines, HELP),
         Outcome::Version => {
             text.clear();
@@ -297,6 +310,14 @@ fn say<S: Sink>(lines: &mut LineSink<S>, text: &mut Vec<u8>, outcome: &Outcome) 
             hand_line(lines, text)
         }
     }
+}
+
+/// Writes a line, unless it is empty.
+fn say_line<S: Sink>(lines: &mut LineSink<S>, line: &[u8]) -> bool
+    requires { lines.old.is_down ≡ false }
+    ensures { HandsText lines.old line.now result lines.new }
+{
+    line.is_empty() || hand_line(lines, line)
 }
 
 /// Writes lines, if there are some.

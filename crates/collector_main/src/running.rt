@@ -6,7 +6,8 @@ ghost use Rattle.collector_main.specs.Outcomes.{served_to};
 
 use crate::program::Outcome;
 use crate::sending::send_with;
-use collector_serve::{Charge, SteadyClock, StoppingSink, drivers, serve_on};
+use collector_board::StoppingSink;
+use collector_serve::{Charge, SteadyClock, drivers, serve_on};
 use drop_ledger::Report;
 use pipeline::{Machine, RunContext, ServeFault};
 use span_sink::WriteSink;

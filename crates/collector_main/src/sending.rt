@@ -8,14 +8,14 @@ ghost use Rattle.collector_main.specs.Ending.{SendsTo, ExportsTo, KeepsTo, IsExp
 use crate::program::Outcome;
 use crate::running::served_to;
 use batch_post::{BatchSink, KeepingSink, Retry};
-use collector_serve::{
-    Charge, ExportWatch, LineSpans, SteadyClock, StoppingSink, drivers, request_fields, serve_on,
-    with_export_room,
-};
+use collector_board::{ExportWatch, LineSpans, StoppingSink};
+use collector_serve::{Charge, SteadyClock, drivers, request_fields, serve_on, with_export_room};
 use drop_ledger::Report;
 use export_report::moved;
+use http1::Header;
 use lane_turns::Driver;
 use lane_worker::ByTurns;
+use otlp_encoding::Encoding;
 use otlp_types::TryClone;
 use pipeline::{Machine, RunContext, ServeFault};
 use post_http::endpoint_of;
@@ -24,7 +24,7 @@ use span_sink::{Sink, WriteSink};
 use std::alloc::Global;
 use std::io::{ErrorKind, Write};
 use std::net::{Net, TcpListener, TcpStream};
-use tsc_config::{Config, OutputFault};
+use tsc_config::{Config, ExportEncoding, OutputFault};
 
 /// Takes requests on a listener by a configuration, and sends the lines to a backend; it prints them too, where the
 /// configuration says so.
@@ -53,13 +53,18 @@ pub fn send_with<'s, T: Net<Listener = TcpListener, Stream = TcpStream> + Machin
     let Some(endpoint) = endpoint_of(address.as_str()) else {
         return (writer, Outcome::CannotListen);
     };
-    let Ok(fields) = request_fields(alloc, endpoint.authority, headers.as_slice()) else {
+    let (host, given) = (endpoint.authority, headers.as_slice());
+    let Ok(fields) = request_fields(alloc, host, Encoding::Json, given) else {
+        return (writer, Outcome::NoMemory);
+    };
+    let Ok(of_protobuf) = request_fields(alloc, host, Encoding::Protobuf, given) else {
         return (writer, Outcome::NoMemory);
     };
     let settings = BackendSettings {
         authority: endpoint.authority,
         path: endpoint.path,
         fields: &fields,
+        protobuf: if_protobuf(config.export.encoding, of_protobuf.as_slice()),
         timeout: config.export.timeout,
         close_wait: config.export.close_wait,
     };
@@ -68,6 +73,14 @@ pub fn send_with<'s, T: Net<Listener = TcpListener, Stream = TcpStream> + Machin
     } else {
         let outcome = export_on(rt, alloc, config, drivers, settings, shared);
         (writer, outcome)
+    }
+}
+
+/// The fields of requests in protobuf, where batches are sent so.
+fn if_protobuf<'t>(encoding: ExportEncoding, fields: &'t [Header<'t>]) -> Option<&'t [Header<'t>]> {
+    match encoding {
+        ExportEncoding::Json => None,
+        ExportEncoding::Protobuf => Some(fields),
     }
 }
 

@@ -1,7 +1,8 @@
 -- Worked rows, computed: a process that may take 800 bytes, and requests to a backend.
 -- They serve the definitions that `MemoryRule`, `request_fields` and `with_export_room` promise.
 use Rattle.std.specs.Prelude.{◌≡◌, ℕ, true, false, [], ◌∷◌, map, codes, refl}
-use Rattle.collector_serve.specs.Moments.{moment_after, stalled_seconds}
+use Rattle.collector_serve.specs.Moments.{moment_after}
+use Rattle.otlp_encoding.specs.declared.encoding.Encoding.TheVariants.{Json, Protobuf}
 use Rattle.collector_serve.specs.Requests.{room_of, request_fields}
 use Rattle.collector_serve.specs.Memory.{MemoryState, is_short, is_shorter, memory_after}
 
@@ -51,9 +52,12 @@ rooms : (room_of 256 512 1 1024 ≡ 131072) × (room_of 3 10 4 5 ≡ 7) × (room
 rooms = (refl, refl, refl)
 
 -- the fields of a request, with one of the configuration
-fields : request_fields (codes "h:1") (record { name = codes "X-Tenant"; value = codes "t1" } ∷ [])
+fields : request_fields (codes "h:1") Json (record { name = codes "X-Tenant"; value = codes "t1" } ∷ [])
     ≡ (codes "Host", codes "h:1") ∷ (codes "Content-Type", codes "application/json") ∷ (codes "X-Tenant", codes "t1") ∷ []
 fields = refl
+
+fields_of_protobuf : request_fields (codes "h:1") Protobuf [] ≡ (codes "Host", codes "h:1") ∷ (codes "Content-Type", codes "application/x-protobuf") ∷ []
+fields_of_protobuf = refl
 
 -- milliseconds behind the start, rounded down, and at most the greatest moment
 moments_after : map (moment_after 1700000000000) (0 ∷ 999999 ∷ 1000000 ∷ 2500000000 ∷ []) ≡ 1700000000000 ∷ 1700000000000 ∷ 1700000000001 ∷ 1700000002500 ∷ []
@@ -61,8 +65,3 @@ moments_after = refl
 
 latest_moment : moment_after 18446744073709551614 5000000 ≡ 18446744073709551615
 latest_moment = refl
-
--- no write; one that began in the first millisecond; one of 1,999 and one of 2,000 milliseconds; one that began later
-stalls : stalled_seconds 0 5000 ∷ stalled_seconds 1 3000 ∷ stalled_seconds 501 2499 ∷ stalled_seconds 501 2500 ∷ stalled_seconds 502 500 ∷ []
-    ≡ 0 ∷ 3 ∷ 1 ∷ 2 ∷ 0 ∷ []
-stalls = refl

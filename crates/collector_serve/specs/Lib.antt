@@ -1,10 +1,8 @@
 -- Sharing: how many connections each lane may have.
--- LineSpans: how many spans a line has that is given up.
 -- Requests: what a configuration says of requests to a backend.
 -- Moments: which moment it is, by the time that has passed.
 -- Memory: when requests are refused since the process takes too much memory.
 pub mod Sharing
-pub mod LineSpans
 pub mod Requests
 pub mod Moments
 pub mod Memory

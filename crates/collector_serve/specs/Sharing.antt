@@ -10,4 +10,4 @@ share_of connections lanes = if nat_le lanes connections then connections / lane
 -- packed bodies are taken where the configuration says so, a client may close where there is no address for those in
 -- charge, and a body may have so many mebibytes
 abbrev pub allowed_by : Config → Allowed
-allowed_by config = record { gzip = config.accept_gzip; close = length config.admin == 0; body_limit = min (config.max_request_mib * 1048576) (2 ^ 32 - 1) }
+allowed_by config = record { gzip = config.accept_gzip; protobuf = config.accept_protobuf; close = length config.admin == 0; body_limit = min (config.max_request_mib * 1048576) (2 ^ 32 - 1) }

@@ -2,10 +2,8 @@
 ghost use Rattle.std.specs.Prelude.{◌≡◌};
 
 use crate::admin_door::end_admin;
-use crate::board::Board;
-use crate::output_stall::OutputStall;
-use crate::stop_mark::{Closer, StopMark};
 use admin_http::Admin;
+use collector_board::{Board, Closer, OutputStall, StopMark};
 use http_lane::HasStopMark;
 use lane_driver::Loads;
 use metrics_text::{Metrics, metrics_text};

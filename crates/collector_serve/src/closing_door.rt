@@ -1,7 +1,8 @@
 //! The thread that answers clients who connect as the collector closes.
 use crate::charge::Charge;
-use crate::stop_mark::Closer;
-use http_lane::{HasStopMark, stopping_text};
+use collector_board::Closer;
+use http_answer::stopping_text;
+use http_lane::HasStopMark;
 use lane_driver::Traffic;
 use std::alloc::Global;
 use std::io::{ErrorKind, Read, Write};
@@ -45,15 +46,15 @@ enum Came {
 impl LateClient {
     /// Reads what is there, answers once something came or it was waited for long enough, and says whether it is waited
     /// on: what a client still sends is read, so that the answer isn't taken back.
-    fn look(&mut self, text: &str, traffic: &Traffic) -> bool {
+    fn look(&mut self, text: &[u8], traffic: &Traffic) -> bool {
         self.looks = self.looks.saturating_add(1);
         let came = self.read_all(traffic);
         if !self.is_answered && (came != Came::Nothing || self.looks >= ANSWER_LOOKS) {
             self.is_answered = true;
-            if self.stream.write_all(text.as_bytes()).is_err() {
+            if self.stream.write_all(text).is_err() {
                 return false;
             }
-            traffic.went(text.as_bytes());
+            traffic.went(text);
             if self.stream.shutdown(Shutdown::Write).is_err() {
                 return false;
             }
@@ -128,7 +129,7 @@ fn stand<R: Wait + Clock>(rt: &R, alloc: Global, listener: &TcpListener, charge:
             continue;
         }
         let have_come = take_all(listener, &mut clients);
-        look_at_all(&mut clients, text.as_str(), &charge.loads.traffic);
+        look_at_all(&mut clients, text.as_slice(), &charge.loads.traffic);
         if is_over {
             last_looks = last_looks.saturating_add(1);
             if last_looks > MOST_LOOKS || clients.is_empty() && !have_come {
@@ -160,7 +161,7 @@ fn take_all(listener: &TcpListener, clients: &mut Vec<LateClient>) -> bool {
 }
 
 /// Looks at each, and lets those go who are done.
-fn look_at_all(clients: &mut Vec<LateClient>, text: &str, traffic: &Traffic) {
+fn look_at_all(clients: &mut Vec<LateClient>, text: &[u8], traffic: &Traffic) {
     let mut at: usize = 0;
     for _ in 0..clients.len() {
         let Some(client) = clients.get_mut(at) else {

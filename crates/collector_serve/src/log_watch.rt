@@ -2,8 +2,8 @@
 use crate::charge::Charge;
 use crate::event_writer::EventWriter;
 use crate::steady_clock::SteadyClock;
-use crate::stop_mark::Closer;
 use crate::wall_clock::WallClock;
+use collector_board::Closer;
 use drop_ledger::Count;
 use event_log::{
     AwayTurn, FieldValue, Level, LogField, Spell, SpellTurn, away_after, jump_of, spell_after,
@@ -21,20 +21,21 @@ use std::{io, thread};
 const PAUSE: u64 = 500;
 
 /// What may begin and be over again: what is said at its beginning, at its end, and of what it tells the number.
-const COMINGS: [(&str, &str, &str); 6] = [
+const COMINGS: [(&str, &str, &str); 7] = [
     ("queue_full", "queue_has_room", "spans"),
     ("memory_refused", "memory_given", "spans"),
     ("traces_evicted", "no_trace_evicted", "spans"),
     ("requests_refused", "requests_taken", "answers_503"),
     ("idlest_closed", "no_idlest_closed", "connections"),
     ("files_run_out", "files_suffice", "times"),
+    ("spans_given_up", "no_span_given_up", "spans"),
 ];
 
 /// What was known at the last look.
 #[derive(Clone, Copy)]
 struct Known {
-    numbers: [u64; 6],
-    spells: [Spell; 6],
+    numbers: [u64; 7],
+    spells: [Spell; 7],
     taken: u64,
     unanswered: u64,
     away_since: Option<u64>,
@@ -48,8 +49,8 @@ impl Known {
     /// Nothing has happened.
     fn new() -> Self {
         Known {
-            numbers: [0; 6],
-            spells: [Spell::new(); 6],
+            numbers: [0; 7],
+            spells: [Spell::new(); 7],
             taken: 0,
             unanswered: 0,
             away_since: None,
@@ -141,8 +142,8 @@ fn number(name: &'static str, number: u64) -> LogField<'static> {
 }
 
 /// The numbers that are looked at: spans that found a queue full, spans without memory, spans of evicted traces, answers
-/// 503, connections that were closed as the idlest, and how often files had run out.
-fn numbers_of(charge: &Charge) -> [u64; 6] {
+/// 503, connections that were closed as the idlest, how often files had run out, and spans that were given up.
+fn numbers_of(charge: &Charge) -> [u64; 7] {
     let report = charge.board.report();
     let traffic = &charge.loads.traffic;
     [
@@ -152,6 +153,7 @@ fn numbers_of(charge: &Charge) -> [u64; 6] {
         traffic.answered(503),
         traffic.closed_idle(),
         traffic.lacked_file(),
+        report.number(Count::Dropped(Reason::ExporterDown)),
     ]
 }
 
@@ -165,7 +167,7 @@ fn look_at_numbers<W: Write + Drop, R: Clock>(
     now: u64,
 ) {
     let numbers = numbers_of(charge);
-    for at in 0..6 {
+    for at in 0..7 {
         let grows = known.numbers[at] < numbers[at];
         known.numbers[at] = numbers[at];
         let (spell, turn) = spell_after(known.spells[at], grows, now);

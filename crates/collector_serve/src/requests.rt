@@ -5,17 +5,19 @@ ghost use Rattle.tsc_config.specs.Values.{InRange};
 ghost use Rattle.collector_serve.specs.Requests.{export_room, request_fields};
 
 use http1::Header;
+use otlp_encoding::Encoding;
 use std::alloc::{AllocError, Global};
 use tsc_config::{Config, HeaderField};
 
-/// The fields of each request to a backend at this host and port, but for the length of its body: those of its own, and
-/// then those of the configuration.
+/// The fields of each request in an encoding to a backend at this host and port, but for the length of its body: those of
+/// its own, and then those of the configuration.
 pub fn request_fields<'t>(
     alloc: Global,
     authority: &'t str,
+    encoding: Encoding,
     headers: &'t [HeaderField],
 ) -> Result<Vec<Header<'t>>, AllocError>
-    ensures { IfOk result (λ fields. pairs fields.items ≡ request_fields authority.now headers.now) }
+    ensures { IfOk result (λ fields. pairs fields.items ≡ request_fields authority.now encoding headers.now) }
 {
     let mut fields = Vec::new(alloc);
     fields.push(Header {
@@ -24,7 +26,7 @@ pub fn request_fields<'t>(
     })?;
     fields.push(Header {
         name: b"Content-Type",
-        value: b"application/json",
+        value: encoding.media_type().as_bytes(),
     })?;
     for header in headers {
         fields.push(Header {

@@ -5,8 +5,8 @@ ghost use Rattle.pipeline.specs.Promise.{CoreRunTells};
 ghost use Rattle.tsc_config.specs.Values.{InRange};
 ghost use Rattle.collector_serve.specs.Sharing.{share_of, allowed_by};
 
-use crate::board::Board;
 use crate::ticker::Ticker;
+use collector_board::Board;
 use drop_ledger::Report;
 use http_lane::{Clock as Moments, HasStopMark};
 use http_text::Allowed;
@@ -125,6 +125,7 @@ fn allowed_by(config: &Config) -> Allowed
     let bytes = config.max_request_mib.saturating_mul(MEBIBYTE);
     Allowed {
         gzip: config.accept_gzip,
+        protobuf: config.accept_protobuf,
         close: config.admin.as_str().is_empty(),
         body_limit: u32::try_from(bytes).unwrap_or(u32::MAX),
     }

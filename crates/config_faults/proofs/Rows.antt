@@ -14,7 +14,7 @@ use Rattle.config_faults.specs.Headers.{may_be_sent}
 use Rattle.config_faults.specs.PolicyTypes.{all_types, type_name}
 use Rattle.config_faults.specs.Keys.{is_key, is_setting, type_named}
 use Rattle.config_faults.specs.Percentages.{ten_thousandths, percentage_of}
-use Rattle.config_faults.specs.Tables.{top_settings}
+use Rattle.config_faults.specs.Tables.{top_settings, export_settings}
 use Rattle.config_faults.specs.declared.fault.ConfigFault.{ConfigFault}
 use Rattle.config_faults.specs.declared.fault.ConfigFault.TheVariants.{NotToml, UnknownKey, MissingKey, WrongType, OutOfRange, TooFewTraces, NoMemory, NotAnExpression, ExpressionTooBig}
 use Rattle.config_faults.specs.declared.policy_types.PolicyType.{PolicyType}
@@ -140,6 +140,29 @@ choices_of_no_type : map (each_setting_fault top_settings) (member (codes "queue
     ∷ one_text (codes "close_at_end_of_input") (codes "true") ∷ member (codes "close_at_end_of_input") (integer (pos 1)) no_members ∷ [])
     ≡ Some WrongType ∷ Some WrongType ∷ Some WrongType ∷ Some WrongType ∷ Some WrongType ∷ []
 choices_of_no_type = refl
+
+-- bodies packed by gzip and bodies in protobuf: each taken or not, and nothing else
+switches : map (each_setting_fault top_settings) (member (codes "accept_gzip") (boolean true) no_members ∷ member (codes "accept_protobuf") (boolean true) no_members
+    ∷ member (codes "accept_protobuf") (boolean false) no_members ∷ member (codes "accept_protobuf") (integer (pos 1)) no_members ∷ one_text (codes "accept_protobuf") (codes "true") ∷ [])
+    ≡ None ∷ None ∷ None ∷ Some WrongType ∷ Some WrongType ∷ []
+switches = refl
+
+-- an address, and how lines are sent there: one of two texts, or nothing; another text, an empty one, one of another
+-- key, and values of another type
+abbrev sent_as : Data → Members
+sent_as value = member (codes "encoding") value (one_text (codes "endpoint") (codes "http://h:1/p"))
+
+encodings : map (each_setting_fault export_settings) (one_text (codes "endpoint") (codes "http://h:1/p") ∷ sent_as (string (codes "json")) ∷ sent_as (string (codes "proto"))
+    ∷ sent_as (string (codes "protobuf")) ∷ sent_as (string (codes "JSON")) ∷ sent_as (string []) ∷ sent_as (string (codes "keep"))
+    ∷ sent_as (boolean true) ∷ sent_as (integer (pos 1)) ∷ [])
+    ≡ None ∷ None ∷ None ∷ Some OutOfRange ∷ Some OutOfRange ∷ Some OutOfRange ∷ Some OutOfRange ∷ Some WrongType ∷ Some WrongType ∷ []
+encodings = refl
+
+-- each stands in its own table
+encoding_keys : is_key table_is.Export (codes "encoding") ∷ is_key table_is.Config (codes "encoding") ∷ is_key table_is.Config (codes "accept_protobuf") ∷ is_key table_is.Export (codes "accept_protobuf") ∷ []
+    ≡ true ∷ false ∷ true ∷ false ∷ []
+unfolding is_key
+encoding_keys = refl
 
 choice_keys : map (is_key table_is.Config) (codes "queue_full" ∷ codes "output_fault" ∷ codes "double_values" ∷ codes "close_at_end_of_input" ∷ codes "queue" ∷ []) ≡ true ∷ true ∷ true ∷ true ∷ false ∷ []
 unfolding is_key

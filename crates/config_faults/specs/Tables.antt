@@ -56,10 +56,11 @@ pub record ChoiceRow : Type 0 where
   pub default : List ℕ
   pub other : List ℕ
 
--- the table of the keys of one of two texts
+-- the table of the keys of one of two texts, those within `export` too
 abbrev pub choice_row : ChoiceKey → ChoiceRow
 choice_row choice_is.QueueFull = record { name = codes "queue_full"; default = codes "partial"; other = codes "retry" }
 choice_row choice_is.DoubleValues = record { name = codes "double_values"; default = codes "discard"; other = codes "keep" }
+choice_row choice_is.Encoding = record { name = codes "encoding"; default = codes "json"; other = codes "proto" }
 
 -- what a key of a text has: its name and its default
 pub record TextRow : Type 0 where
@@ -138,6 +139,7 @@ other_settings =
     ∷ text_setting text_is.Output
     ∷ log_setting text_is.Log
     ∷ switch (codes "accept_gzip")
+    ∷ switch (codes "accept_protobuf")
     ∷ switch (codes "sample_on_first_match")
     ∷ choice_setting choice_is.QueueFull
     ∷ output_fault_setting text_is.OutputFault
@@ -154,8 +156,8 @@ top_settings = wait_settings ++ other_settings
 abbrev pub cache_settings : List Setting
 cache_settings = number_setting number_is.SampledCacheSize ∷ number_setting number_is.NonSampledCacheSize ∷ []
 
--- those of `export`: the address, times in milliseconds, how many batches wait, whether lines are printed too, and
--- fields of requests
+-- those of `export`: the address, times in milliseconds, how many batches wait, whether lines are printed too, the
+-- encoding, and fields of requests
 abbrev pub export_settings : List Setting
 export_settings =
     required (codes "endpoint") value_is.Endpoint
@@ -166,5 +168,6 @@ export_settings =
     ∷ number_setting number_is.CloseWait
     ∷ number_setting number_is.QueueBatches
     ∷ switch (codes "lines")
+    ∷ choice_setting choice_is.Encoding
     ∷ optional (codes "headers") value_is.Headers
     ∷ []

@@ -72,11 +72,13 @@ impl NumberKey {
     }
 }
 
-/// The keys of a configuration whose value is one of two texts.
+/// The keys whose value is one of two texts, those within `export` too.
 #[derive(Clone, Copy)]
 pub enum ChoiceKey {
     QueueFull,
     DoubleValues,
+    /// Of `export`.
+    Encoding,
 }
 
 impl ChoiceKey {
@@ -89,6 +91,7 @@ impl ChoiceKey {
         match self {
             ChoiceKey::QueueFull => ("queue_full", "partial", "retry"),
             ChoiceKey::DoubleValues => ("double_values", "discard", "keep"),
+            ChoiceKey::Encoding => ("encoding", "json", "proto"),
         }
     }
 }
@@ -120,7 +123,7 @@ impl TextKey {
 }
 
 /// The settings of a configuration that are no tables.
-pub fn top_settings() -> [Setting; 27]
+pub fn top_settings() -> [Setting; 28]
     ensures { map spec.setting_of result ≡ spec.top_settings }
 {
     [
@@ -145,6 +148,7 @@ pub fn top_settings() -> [Setting; 27]
         text_setting(TextKey::Output),
         log_setting(TextKey::Log),
         Setting::Default("accept_gzip", ValueKind::Truth, DefaultValue::Off),
+        Setting::Default("accept_protobuf", ValueKind::Truth, DefaultValue::Off),
         Setting::Default("sample_on_first_match", ValueKind::Truth, DefaultValue::Off),
         choice_setting(ChoiceKey::QueueFull),
         output_fault_setting(TextKey::OutputFault),
@@ -165,7 +169,7 @@ pub fn cache_settings() -> [Setting; 2]
 }
 
 /// The settings of `export`.
-pub fn export_settings() -> [Setting; 9]
+pub fn export_settings() -> [Setting; 10]
     ensures { map spec.setting_of result ≡ spec.export_settings }
 {
     [
@@ -177,6 +181,7 @@ pub fn export_settings() -> [Setting; 9]
         number_setting(NumberKey::CloseWait),
         number_setting(NumberKey::QueueBatches),
         Setting::Default("lines", ValueKind::Truth, DefaultValue::Off),
+        choice_setting(ChoiceKey::Encoding),
         Setting::Optional("headers", ValueKind::Headers),
     ]
 }

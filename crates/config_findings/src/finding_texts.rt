@@ -1,28 +1,15 @@
-//! What is said of a fault of a configuration: its place, and what would be right. A place is written as the keys that
-//! lead to it, with the number of an item from 0. Contracts say what is told of a key that there isn't, and where a text
-//! isn't TOML; of other texts no more than that they are made, and tests/faulty.py compares them.
+//! What is said of a fault of a configuration: its place, and what would be right. Contracts say what is told of a key
+//! that there isn't, and where a text isn't TOML; of other texts no more than that they are made, and tests/faulty.py
+//! compares them. Where a fault of policies stands has its contract in `policy_places`.
 ghost use Rattle.std.specs.Prelude.{◌≡◌, IfOk, string_bytes};
 ghost use Rattle.config_findings.specs.Texts.{no_key_text, no_toml_text, place_from};
 
 use config_faults::{ConfigFault, ItemKind, PolicyType, TableKind, ValueKind};
 use near_keys::{Hint, hint_of};
+use policy_places::{FaultPlace, fault_place, key_place, order_follows};
 use policy_tree::PolicyFault;
 use std::alloc::{AllocError, Global};
-use toml::Value;
-
-/// The place of a key of the table at a place.
-pub fn key_place(alloc: Global, place: &str, key: &str) -> Result<String, AllocError> {
-    if place.is_empty() {
-        String::from_str(alloc, key)
-    } else {
-        format!(in alloc; "{place}.{key}")
-    }
-}
-
-/// The place of an item of the array at a place.
-pub fn item_place(alloc: Global, place: &str, index: u64) -> Result<String, AllocError> {
-    format!(in alloc; "{place}[{index}]")
-}
+use toml::{Table, Value};
 
 /// The text that a table of this kind has no such key, and what is known of it. A key that isn't bare is written between
 /// quotation marks.
@@ -208,16 +195,49 @@ pub fn item_text(
     }
 }
 
-/// The text that the order of a composite is another one than that of its parts.
-pub fn order_text(alloc: Global, place: &str) -> Result<String, AllocError> {
+/// The text that the order of a composite with these settings is another one than that of its parts.
+pub fn order_text(alloc: Global, place: &str, settings: &Table) -> Result<String, AllocError> {
+    let follows = if order_follows(settings) { FOLLOWS } else { "" };
     format!(in alloc;
-        "{place}.policy_order: not the names of composite_sub_policy, as they stand there"
+        "{place}.policy_order: not the names of composite_sub_policy, as they stand there{follows}"
     )
 }
 
-/// What is said of policies that have this fault.
-pub fn policy_fault_text(alloc: Global, fault: PolicyFault) -> Result<String, AllocError> {
-    let said = match fault {
+/// What is said of a fault that isn't there any more once the others are mended.
+const FOLLOWS: &str = "; it follows from another fault";
+
+/// What is said of the policies in the table of a configuration that have this fault: where it stands, or that it only
+/// follows from another one.
+pub fn policy_fault_text(
+    alloc: Global,
+    table: &Table,
+    fault: PolicyFault,
+) -> Result<String, AllocError> {
+    let said = policy_words(fault);
+    match (fault_place(alloc, table, fault)?, fault) {
+        (Some(place), _) => placed_text(alloc, said, &place),
+        (None, PolicyFault::EmptyList | PolicyFault::SameName | PolicyFault::NoValues) => {
+            format!(in alloc; "policies: {said}{FOLLOWS}")
+        }
+        (None, _) => format!(in alloc; "policies: {said}"),
+    }
+}
+
+/// What is said of a fault that stands at a place.
+fn placed_text(alloc: Global, said: &str, place: &FaultPlace) -> Result<String, AllocError> {
+    let keys = place.keys.as_str();
+    match &place.name {
+        Some(name) => {
+            let name = name.as_str();
+            format!(in alloc; "policies: {said}: {name:?} in {keys}")
+        }
+        None => format!(in alloc; "policies: {said}: {keys}"),
+    }
+}
+
+/// What is wrong with policies that have this fault.
+fn policy_words(fault: PolicyFault) -> &'static str {
+    match fault {
         PolicyFault::EmptyList => "a list of policies is empty",
         PolicyFault::TooDeep => "policies are nested deeper than 8",
         PolicyFault::TooMany => "there are more than 64 policies",
@@ -225,8 +245,7 @@ pub fn policy_fault_text(alloc: Global, fault: PolicyFault) -> Result<String, Al
         PolicyFault::CrossedBounds => "the bounds of a policy leave nothing between them",
         PolicyFault::NoValues => "the values or status codes of a policy are an empty list",
         PolicyFault::NoMemory => "no memory",
-    };
-    format!(in alloc; "policies: {said}")
+    }
 }
 
 /// What is said of a text in `values` that is no regular expression.

@@ -5,13 +5,14 @@ ghost use Rattle.config_findings.specs.FaultLists as spec;
 ghost use Rattle.config_faults.specs.Faults as faults;
 ghost use Rattle.config_faults.specs.Keys.{type_at};
 
-use crate::finding_texts::{item_place, key_place, order_text, wrong_text};
+use crate::finding_texts::{order_text, wrong_text};
 use crate::findings::Findings;
 use crate::settings_findings::{add_rows, add_settings, add_unknown};
 use config_faults::{
     ConfigFault, PolicyType, Setting, TableKind, ValueKind, join_at, join_type, member,
     order_fault, sub_key, type_at,
 };
+use policy_places::{item_place, key_place};
 use policy_tree::Join;
 use std::alloc::{AllocError, Global};
 use toml::value::Array;
@@ -176,7 +177,7 @@ fn add_order(
     ensures { OnOk result (findings.new ≡ findings.old ++ spec.listed (faults.order_fault join (table_view table.now))) }
 {
     match order_fault(join, table) {
-        Some(fault) => findings.add(fault, order_text(alloc, place)?),
+        Some(fault) => findings.add(fault, order_text(alloc, place, table)?),
         None => Ok(()),
     }
 }

@@ -5,13 +5,12 @@ ghost use Rattle.config_findings.specs.FaultLists as spec;
 ghost use Rattle.config_faults.specs.Faults.{item_fault};
 ghost use Rattle.config_faults.specs.Tables.{setting_of};
 
-use crate::finding_texts::{
-    item_place, item_text, key_place, unknown_text, value_text, wrong_text,
-};
+use crate::finding_texts::{item_text, unknown_text, value_text, wrong_text};
 use crate::findings::Findings;
 use config_faults::{
     ConfigFault, ItemKind, Setting, TableKind, ValueKind, is_key, item_fault, member, value_fault,
 };
+use policy_places::{item_place, key_place};
 use std::alloc::{AllocError, Global};
 use toml::value::Array;
 use toml::{Table, Value};

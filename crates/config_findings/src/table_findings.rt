@@ -178,7 +178,7 @@ fn add_given(
     match Policies::new(alloc, policies_at(alloc, table)?) {
         Ok(policies) => add_expressions(alloc, &policies, findings, big),
         Err(fault) => {
-            let said = policy_fault_text(alloc, fault)?;
+            let said = policy_fault_text(alloc, table, fault)?;
             findings.add(ConfigFault::Policy(fault), said)
         }
     }

@@ -253,6 +253,7 @@ export_in_of given =
       within_of number_is.CloseWait export_defaults given refl refl,
       within_of number_is.QueueBatches export_defaults given refl refl,
       filled Bool truth_of (codes "lines") export_defaults (boolean false) given refl refl,
+      filled Bool (is_other (choice_row choice_is.Encoding)) (codes "encoding") export_defaults (string (codes "json")) given refl refl,
       unfilled (codes "headers") export_defaults given refl,
     )
     refl
@@ -308,6 +309,7 @@ configs_same m =
       plain OutputFault output_fault_of (codes "output_fault") (string (codes "discard")) m refl refl refl refl refl,
       plain LogForm log_form_of (codes "log") (string (codes "text")) m refl refl refl refl refl,
       plain Bool truth_of (codes "accept_gzip") (boolean false) m refl refl refl refl refl,
+      plain Bool truth_of (codes "accept_protobuf") (boolean false) m refl refl refl refl refl,
       choice_of choice_is.QueueFull m refl refl refl refl refl,
       choice_of choice_is.DoubleValues m refl refl refl refl refl,
       plain Bool truth_of (codes "close_at_end_of_input") (boolean false) m refl refl refl refl refl,

@@ -6,6 +6,7 @@ use Rattle.config_text.specs.Whole.{with_defaults}
 -- a configuration without a key
 nothing : with_defaults no_members
     ≡ member (codes "accept_gzip") (boolean false)
+    (member (codes "accept_protobuf") (boolean false)
     (member (codes "close_at_end_of_input") (boolean false)
     (member (codes "decision_cache") (table (member (codes "non_sampled_cache_size") (integer (pos 0)) (member (codes "sampled_cache_size") (integer (pos 0)) no_members)))
     (member (codes "decision_wait_ms") (integer (pos 30000))
@@ -30,7 +31,7 @@ nothing : with_defaults no_members
     (member (codes "sample_on_first_match") (boolean false)
     (member (codes "send_batch_size") (integer (pos 512))
     (member (codes "shards") (integer (pos 1))
-    (member (codes "tick_ms") (integer (pos 1000)) no_members)))))))))))))))))))))))))
+    (member (codes "tick_ms") (integer (pos 1000)) no_members))))))))))))))))))))))))))
 unfolding with_defaults
 nothing = refl
 
@@ -38,6 +39,7 @@ nothing = refl
 served : Members
 served =
     member (codes "accept_gzip") (boolean true)
+    (member (codes "accept_protobuf") (boolean true)
     (member (codes "admin") (string (codes "127.0.0.1:4319"))
     (member (codes "decision_cache") (table (member (codes "non_sampled_cache_size") (integer (pos 100000)) (member (codes "sampled_cache_size") (integer (pos 100000)) no_members)))
     (member (codes "decision_wait_ms") (integer (pos 30000))
@@ -56,10 +58,11 @@ served =
     (member (codes "root_wait_ms") (integer (pos 2000))
     (member (codes "send_batch_size") (integer (pos 512))
     (member (codes "shards") (integer (pos 4))
-    (member (codes "tick_ms") (integer (pos 500)) no_members)))))))))))))))))))
+    (member (codes "tick_ms") (integer (pos 500)) no_members))))))))))))))))))))
 
 served_whole : with_defaults served ≡
     member (codes "accept_gzip") (boolean true)
+    (member (codes "accept_protobuf") (boolean true)
     (member (codes "admin") (string (codes "127.0.0.1:4319"))
     (member (codes "close_at_end_of_input") (boolean false)
     (member (codes "decision_cache") (table (member (codes "non_sampled_cache_size") (integer (pos 100000)) (member (codes "sampled_cache_size") (integer (pos 100000)) no_members)))
@@ -86,7 +89,7 @@ served_whole : with_defaults served ≡
     (member (codes "sample_on_first_match") (boolean false)
     (member (codes "send_batch_size") (integer (pos 512))
     (member (codes "shards") (integer (pos 4))
-    (member (codes "tick_ms") (integer (pos 500)) no_members)))))))))))))))))))))))))))
+    (member (codes "tick_ms") (integer (pos 500)) no_members))))))))))))))))))))))))))))
 unfolding with_defaults served
 served_whole = refl
 
@@ -121,12 +124,13 @@ partly_caches = refl
 
 partly_export : get_member (codes "export") (with_defaults partly)
     ≡ Some (table (member (codes "close_wait_ms") (integer (pos 10000))
+    (member (codes "encoding") (string (codes "json"))
     (member (codes "endpoint") (string (codes "http://a/b"))
     (member (codes "lines") (boolean false)
     (member (codes "queue_batches") (integer (pos 256))
     (member (codes "retry_for_ms") (integer (pos 5))
     (member (codes "retry_initial_ms") (integer (pos 500))
     (member (codes "retry_max_ms") (integer (pos 30000))
-    (member (codes "timeout_ms") (integer (pos 10000)) no_members)))))))))
+    (member (codes "timeout_ms") (integer (pos 10000)) no_members))))))))))
 unfolding with_defaults partly
 partly_export = refl

@@ -4,11 +4,12 @@ use Rattle.std.proofs.Common.{false, ◌≡◌, ℕ, List, [], ◌∷◌, ◌++�
 use Rattle.std.specs.Prelude.{MatchOption, ◌||◌}
 use Rattle.std.proofs.Math.Seq.{take-add}
 use Rattle.std.specs.Io.KnownBytes.{Appends, Consumes}
+use Rattle.otlp_encoding.specs.declared.encoding.Encoding.{Encoding}
 use Rattle.http_lane.specs.declared.answer.EventFate.{EventFate}
 use Rattle.http_lane.specs.declared.answer.EventFate.TheVariants.{Written, Uncounted, Unmade, Unwritten}
 use Rattle.http_lane.specs.declared.answer.ServeEnd.{ServeEnd}
 use Rattle.http_lane.specs.declared.answer.ServeEnd.TheVariants.{Turns, NoMemory}
-use Rattle.http_lane.specs.Connection.{RequestReading, Cause, ConnectionEvent, Brings, Rests, Settles, end_of, can_be, Writes, WritesBy, text_of, SubmitsAll, Submission, submissions, submission_by, is_counted, accepts, refusal, close_asked, starved, stopping, timed_out, submitted, end_with, ConnectionStanding, ReadRound, Rounds, IsRound, ConnectionTurn, turns_of, bytes_by, bytes_given, is_end, is_ended, events_of, at_first, standing, IsRoundBy, in_head}
+use Rattle.http_lane.specs.Connection.{RequestReading, Cause, ConnectionEvent, Brings, Rests, Settles, IsTold, end_of, can_be, Writes, WritesBy, text_of, SubmitsAll, Submission, submissions, submission_by, is_counted, accepts, refusal, close_asked, starved, stopping, timed_out, submitted, end_with, ConnectionStanding, ReadRound, Rounds, IsRound, ConnectionTurn, turns_of, bytes_by, bytes_given, is_end, is_ended, events_of, at_first, standing, IsRoundBy, in_head}
 use Rattle.http_lane.specs.declared.answer.TheConstants.{READ_LIMIT}
 use Rattle.http_lane.specs.Engine.{Does, Puts, IsFateOfText, Served, KnownReader, Tells, Gives, Serves}
 use Rattle.http_lane.specs.Turns.{answers, has_answer}
@@ -24,8 +25,8 @@ Appends-none None = tt
 Appends-none (Some xs) = sym (append-nil xs)
 
 -- one event more
-abbrev pub one : Cause → EventFate → ConnectionEvent
-one cause fate = record { cause = cause; fate = fate }
+abbrev pub one : Encoding → Cause → EventFate → ConnectionEvent
+one encoding cause fate = record { cause = cause; encoding = encoding; fate = fate }
 
 -- whatever comes behind the reading mid comes behind these events from r
 abbrev pub Leads : RequestReading → List ConnectionEvent → RequestReading → Type 0
@@ -40,7 +41,7 @@ settles_on None next more end last e s = s
 settles_on (Some why) next more end last e s = absurd (cc)
 
 -- and behind one event more
-pub leads_more : (r mid next : RequestReading) (events : List ConnectionEvent) (e : ConnectionEvent) → Leads r events mid → Brings mid e.cause next → can_be e.fate e.cause ≡ true → end_of e ≡ None
+pub leads_more : (r mid next : RequestReading) (events : List ConnectionEvent) (e : ConnectionEvent) → Leads r events mid → Brings mid e.cause next → IsTold mid e → end_of e ≡ None
     → Leads r (events ++ e ∷ []) next
 leads_more r mid next events e leads brings can none more end last s =
     subst (λ es. Settles r es end last) (sym (append_assoc events (e ∷ []) more))
@@ -52,7 +53,7 @@ ends_here None next why last e = absurd (cc)
 ends_here (Some w) next why last e = (refl, sym e)
 
 -- an event that ends the connection is the last
-pub leads_end : (r mid next last : RequestReading) (events : List ConnectionEvent) (e : ConnectionEvent) (why : ServeEnd) → Leads r events mid → Brings mid e.cause next → can_be e.fate e.cause ≡ true → end_of e ≡ Some why
+pub leads_end : (r mid next last : RequestReading) (events : List ConnectionEvent) (e : ConnectionEvent) (why : ServeEnd) → Leads r events mid → Brings mid e.cause next → IsTold mid e → end_of e ≡ Some why
     → Settles r (events ++ e ∷ []) (Some why) last
 leads_end r mid next last events e why leads brings can ends =
     leads (e ∷ []) (Some why) last (next, brings, can, ends_here (end_of e) next why last ends)
@@ -62,7 +63,7 @@ writes-append [] ys a b x y = subst (λ t. Writes ys (t ++ b)) (sym x) y
 writes-append (e ∷ xs) ys a b x y =
     (x.0, x.1 ++ b, ap (λ t. t ++ b) x.2 ∙ append_assoc x.0 x.1 b, x.3, writes-append xs ys x.1 b x.4 y)
 
-pub writes_one : (e : ConnectionEvent) (a : List ℕ) → WritesBy e.fate (text_of e.cause) a → Writes (e ∷ []) a
+pub writes_one : (e : ConnectionEvent) (a : List ℕ) → WritesBy e.fate (text_of e.encoding e.cause) a → Writes (e ∷ []) a
 writes_one e a w = (a, [], sym (append-nil a), w, refl)
 
 pub submits-append : {L : Type 0} (submits : L → Submission → L → Type 0) (u v w : L) (xs ys : List Submission) → SubmitsAll submits u xs v → SubmitsAll submits v ys w → SubmitsAll submits u (xs ++ ys) w
@@ -71,20 +72,20 @@ submits-append submits u v w (s ∷ xs) ys x y = (x.0, x.1, submits-append submi
 
 submissions-append : (xs ys : List ConnectionEvent) → submissions (xs ++ ys) ≡ submissions xs ++ submissions ys
 submissions-append [] ys = refl
-submissions-append (e ∷ xs) ys = ap (λ l. submission_by e.fate e.cause ++ l) (submissions-append xs ys) ∙ sym (append_assoc (submission_by e.fate e.cause) (submissions xs) (submissions ys))
+submissions-append (e ∷ xs) ys = ap (λ l. submission_by e.fate e.encoding e.cause ++ l) (submissions-append xs ys) ∙ sym (append_assoc (submission_by e.fate e.encoding e.cause) (submissions xs) (submissions ys))
 
 pub does_none : {L : Type 0} (submits : L → Submission → L → Type 0) (text : Option (List ℕ)) (lane : L) → Does submits text text lane lane []
 does_none submits text lane = ([], Appends-none text, refl, refl)
 
 -- one event more was done
 pub does_more : {L : Type 0} (submits : L → Submission → L → Type 0) (t u v : Option (List ℕ)) (a b c : L) (events : List ConnectionEvent) (e : ConnectionEvent)
-    → Does submits t u a b events → Puts u v e.fate (text_of e.cause) → SubmitsAll submits b (submission_by e.fate e.cause) c → Does submits t v a c (events ++ e ∷ [])
+    → Does submits t u a b events → Puts u v e.fate (text_of e.encoding e.cause) → SubmitsAll submits b (submission_by e.fate e.encoding e.cause) c → Does submits t v a c (events ++ e ∷ [])
 does_more submits t u v a b c events e d p s = (
   d.0 ++ p.0,
   Appends-then t u v d.0 p.0 d.1 p.1,
   writes-append events (e ∷ []) d.0 p.0 d.2 (writes_one e p.0 p.2),
   subst (λ ss. SubmitsAll submits a ss c) (sym (submissions-append events (e ∷ [])))
-      (submits-append submits a b c (submissions events) (submissions (e ∷ [])) d.3 (subst (λ ss. SubmitsAll submits b ss c) (sym (append-nil (submission_by e.fate e.cause))) s)),
+      (submits-append submits a b c (submissions events) (submissions (e ∷ [])) d.3 (subst (λ ss. SubmitsAll submits b ss c) (sym (append-nil (submission_by e.fate e.encoding e.cause))) s)),
 )
 
 pub take_then : (i n : ℕ) (xs : List ℕ) → take i xs ++ take n (drop i xs) ≡ take (i + n) xs

@@ -6,4 +6,5 @@ pub mod ReplyLemmas
 pub mod AnswerLemmas
 pub mod StepLemmas
 mod TurnLemmas
+mod TurnPieces
 mod UnpackLemmas

@@ -41,7 +41,7 @@ closes_ends Unmade e = cc e
 closes_ends Unwritten e = cc e
 
 -- what closes the connection ends it
-closing : (e : ConnectionEvent) (cause : Cause) → e.cause ≡ cause → closes cause ≡ true → end_of e ≡ None → ⊥
+pub closing : (e : ConnectionEvent) (cause : Cause) → e.cause ≡ cause → closes cause ≡ true → end_of e ≡ None → ⊥
 closing e cause is closes_it open_after = closes_ends e.fate (ap (end_with e.fate) (sym (ap closes is ∙ closes_it)) ∙ open_after)
 
 head_packed : (g : Allowed) (v : HeadVerdict) (rest : List ℕ) (e : ConnectionEvent) (next : RequestReading) → HeadBrings g v rest e.cause next → end_of e ≡ None → allowed_in next ≡ g

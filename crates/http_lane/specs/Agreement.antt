@@ -45,7 +45,7 @@ AgreeAsFar (e ∷ es) (f ∷ fs) = (e.fate ≡ f.fate) × (choice_of e.cause ≡
 abbrev pub RepliesTo : {P : Type 0} → (P → Item → P → Type 0) → (P → P → Type 0) → Intake P → List ConnectionEvent → Intake P → Type 0
 RepliesTo takes refuses old events new = SubmitsAll (Submits takes refuses) old (submissions events) new
 
--- of one body, with memory and numbers for its spans or not, and as many of its pushes refused, two lanes that both
+-- of one body in one encoding, with memory and numbers for its spans or not, and as many of its pushes refused, two lanes that both
 -- keep doubles, or both discard them, tell the same, whatever was done there before
 abbrev pub RepliesAreDetermined : {P Q : Type 0} → (P → Item → P → Type 0) → (P → P → Type 0)
     → (Q → Item → Q → Type 0) → (Q → Q → Type 0) → Type 0
@@ -53,4 +53,4 @@ RepliesAreDetermined {P} {Q} takes refuses its_takes its_refuses =
     (a b : Intake P) (s : Submission) (c d : Intake Q) (t : Submission)
     → a.lane.keeps_doubles ≡ c.lane.keeps_doubles
     → Submits takes refuses a s b → Submits its_takes its_refuses c t d
-    → s.body ≡ t.body → said_by s.reply ≡ said_by t.reply → s.reply ≡ t.reply
+    → s.encoding ≡ t.encoding → s.body ≡ t.body → said_by s.reply ≡ said_by t.reply → s.reply ≡ t.reply

@@ -2,22 +2,22 @@
 use Rattle.std.specs.Prelude.{◌≡◌, ℕ, ◌<◌, ◌≤◌, Bool, true, false, List, [], ◌++◌, Option, Some, None, take}
 use Rattle.std.specs.Io.KnownBytes.{Appends, Consumes, IsAtEnd}
 use Rattle.std.specs.Borrow.{Bor}
+use Rattle.otlp_encoding.specs.declared.encoding.Encoding.{Encoding}
 use Rattle.http_text.specs.declared.allowed.Allowed.{Allowed}
 use Rattle.http_text.specs.declared.request.RequestRefusal.TheVariants.{NotGzip, BodyTooLarge}
 use Rattle.inflate.specs.declared.fault.GzipFault.{GzipFault}
 use Rattle.inflate.specs.declared.fault.GzipFault.TheVariants.{Broken, TooLong, NoMemory}
 use Rattle.http_lane.specs.declared.answer.Brought.{Brought}
 use Rattle.http_lane.specs.declared.answer.Brought.TheVariants.{Nothing, Refused, Close, Accepted, Whole}
-use Rattle.http_lane.specs.declared.answer.Response.{Response}
-use Rattle.http_lane.specs.declared.answer.Response.TheVariants.{Continue, Refused as ARefused, CloseAsked, Starved, Stopping, TimedOut, Replied}
+use Rattle.http_answer.specs.declared.response.Response.{Response}
+use Rattle.http_answer.specs.declared.response.Response.TheVariants.{Refused as ARefused, Starved}
 use Rattle.http_lane.specs.declared.answer.ReadTurn.{ReadTurn}
 use Rattle.http_lane.specs.declared.answer.ReadTurn.TheVariants.{Gave, Quiet as TQuiet, Interrupted as TInterrupted, Failed as TFailed, Ended as TEnded}
 use Rattle.http_lane.specs.declared.answer.EventFate.{EventFate}
 use Rattle.http_lane.specs.declared.answer.EventFate.TheVariants.{Uncounted}
 use Rattle.http_lane.specs.declared.answer.ServeEnd.{ServeEnd}
-use Rattle.http_lane.specs.Connection.{RequestReading, Cause, accepts, refusal, close_asked, starved, stopping, submitted, Brings, Rests, IsTextOf, IsUnfit, ConnectionEvent, Settles, Writes, WritesBy, text_of, SubmitsAll, Submission, submissions, submission_by, can_be, closes as closes_of, end_with, ConnectionTurn, gave, quiet, interrupted, failed, ended, bytes_given, is_ended, ReadRound, ConnectionStanding, standing, IsRoundBy, IsTranscript, turns_of, events_of}
+use Rattle.http_lane.specs.Connection.{RequestReading, encoding_in, Cause, accepts, refusal, close_asked, starved, stopping, submitted, Brings, Rests, IsTextOf, IsUnfit, ConnectionEvent, Settles, Writes, WritesBy, text_of, SubmitsAll, Submission, submissions, submission_by, can_be, closes as closes_of, end_with, ConnectionTurn, gave, quiet, interrupted, failed, ended, bytes_given, is_ended, ReadRound, ConnectionStanding, standing, IsRoundBy, IsTranscript, turns_of, events_of}
 use Rattle.http_lane.specs.Turns.{answers, has_answer}
-use Rattle.http_lane.specs.Answer.{continue_text, answer_text, refusal_row, done_row, busy_row, closing_row, timeout_row, reply_row}
 
 -- what may be done with a whole body, as it came
 abbrev pub Serves : (limit : ℕ) → (is_packed : Bool) → Option (List ℕ) → Bool → Cause → Type 0
@@ -48,16 +48,6 @@ GoesOn (Accepted awaited) = Unit {0}
 GoesOn (Whole is_packed closing limit) = Unit {0}
 GoesOn _ = ⊥
 
--- the bytes of an answer
-abbrev pub text_of_answer : Response → List ℕ
-text_of_answer Continue = continue_text
-text_of_answer (ARefused r is_head) = answer_text (refusal_row r) true is_head
-text_of_answer CloseAsked = answer_text done_row true false
-text_of_answer Starved = answer_text busy_row true false
-text_of_answer Stopping = answer_text closing_row true false
-text_of_answer TimedOut = answer_text timeout_row true false
-text_of_answer (Replied reply closes) = answer_text (reply_row reply) closes false
-
 -- the answer to a packed body that gives no text
 abbrev pub answer_to : GzipFault → Response
 answer_to Broken = ARefused NotGzip false
@@ -84,22 +74,23 @@ Settled awaits submits old_text new_text old new r settled engine =
     (events : List ConnectionEvent) × (last : RequestReading) × Settles r events settled.0 last × (settled.0 ≡ None → awaits engine last) × Does submits old_text new_text old new events × (settled.1 ≡ has_answer events)
 
 -- one event: its cause is true of `brings`, and this was done for it
-pub record Did {L : Type 0} (submits : L → Submission → L → Type 0) (old_text new_text : Option (List ℕ)) (old new : L) (cause : Cause) (closing : Bool) (fate : EventFate) : Type 0 where
+pub record Did {L : Type 0} (submits : L → Submission → L → Type 0) (old_text new_text : Option (List ℕ)) (old new : L) (encoding : Encoding) (cause : Cause) (closing : Bool) (fate : EventFate) : Type 0 where
   pub can : can_be fate cause ≡ true
   pub closes : closes_of cause ≡ closing
-  pub puts : Puts old_text new_text fate (text_of cause)
-  pub lane : SubmitsAll submits old (submission_by fate cause) new
+  pub puts : Puts old_text new_text fate (text_of encoding cause)
+  pub lane : SubmitsAll submits old (submission_by fate encoding cause) new
 
 -- a whole body was served
-abbrev pub Responds : {L : Type 0} → (L → Submission → L → Type 0) → Option (List ℕ) → Option (List ℕ) → L → L → (limit : ℕ) → Bool → Option (List ℕ) → Bool → (Bool × EventFate) → Type 0
-Responds submits old_text new_text old new limit is_packed body closing r =
-    (cause : Cause) × Serves limit is_packed body closing cause × Did submits old_text new_text old new cause r.0 r.1
+abbrev pub Responds : {L : Type 0} → (L → Submission → L → Type 0) → Option (List ℕ) → Option (List ℕ) → L → L → Encoding → (limit : ℕ) → Bool → Option (List ℕ) → Bool → (Bool × EventFate) → Type 0
+Responds submits old_text new_text old new encoding limit is_packed body closing r =
+    (cause : Cause) × Serves limit is_packed body closing cause × Did submits old_text new_text old new encoding cause r.0 r.1
 
 -- one step of serving, from a reading
 abbrev pub Acts : {E L : Type 0} → (stands awaits : E → RequestReading → Type 0) → (L → Submission → L → Type 0) → Option (List ℕ) → Option (List ℕ) → L → L → RequestReading → Option (Bool × EventFate × Bool) → E → Type 0
 Acts stands awaits submits old_text new_text old new r None engine = Rests r × awaits engine r × (new_text ≡ old_text) × (new ≡ old)
 Acts stands awaits submits old_text new_text old new r (Some done) engine =
-    (cause : Cause) × (next : RequestReading) × Brings r cause next × (end_with done.1 done.0 ≡ None → stands engine next) × Did submits old_text new_text old new cause done.0 done.1 × (answers cause ≡ done.2)
+    (cause : Cause) × (next : RequestReading) × Brings r cause next × (end_with done.1 done.0 ≡ None → stands engine next) × (told : Encoding) × (told ≡ encoding_in r)
+    × Did submits old_text new_text old new told cause done.0 done.1 × (answers cause ≡ done.2)
 
 abbrev pub IsOpenAfter : Option (Bool × EventFate × Bool) → Type 0
 IsOpenAfter None = ⊥

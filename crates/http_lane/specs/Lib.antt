@@ -1,7 +1,6 @@
--- Reading order: Answer (the bytes of an answer), Connection (the transcript of a connection), Turns (the same by a
--- clock, for one connection among many), Intake (what a request does to a lane and the counts), Agreement (when two
+-- Reading order: Connection (the transcript of a connection), Turns (the same by a clock, for one connection among
+-- many), Intake (what a request does to a lane and the counts), Agreement and TurnAgreement (when two
 -- connections do the same), Engine (what each part of the loop owes), Requests and Input (the state of the engine).
-pub mod Answer
 pub mod Connection
 pub mod Intake
 pub mod Agreement
@@ -9,3 +8,4 @@ pub mod Engine
 pub mod Input
 pub mod Requests
 pub mod Turns
+pub mod TurnAgreement

@@ -6,7 +6,7 @@ use Rattle.http_text.specs.declared.allowed.Allowed.{Allowed}
 use Rattle.http_lane.specs.declared.answer.ServeEnd.{ServeEnd}
 use Rattle.http_lane.specs.declared.answer.ServeEnd.TheVariants.{Closed, Cut, Quiet, Stopped, ReadFault, WriteFault, NoMemory}
 use Rattle.http_lane.specs.declared.turns.TheConstants.{IDLE_LIMIT, REQUEST_LIMIT}
-use Rattle.http_lane.specs.Connection.{RequestReading, in_head, in_body, grown, is_between, Cause, accepts, timed_out, ConnectionEvent, end_of, can_be, Settles}
+use Rattle.http_lane.specs.Connection.{RequestReading, in_head, in_body, grown, is_between, Cause, accepts, timed_out, ConnectionEvent, end_of, IsTold, Settles}
 
 -- what a turn brought: some bytes, or some for which there was no memory; nothing, so that only the time was looked at;
 -- the input's end; a fault of a read; that a write had failed or stood still for too long; or that the connection had
@@ -57,9 +57,9 @@ abbrev pub idle_end : (since moment : ℕ) → Bool → Option ServeEnd
 idle_end since moment is_stopped = if is_stopped then Some Stopped else (if nat_le (since + IDLE_LIMIT) moment then Some Quiet else None)
 
 -- nothing came within a request: it is answered once its time is over
-abbrev pub IsLate : (since moment : ℕ) → List ConnectionEvent → Option ServeEnd → Type 0
-IsLate since moment events end =
-    ((since + REQUEST_LIMIT ≤ moment) × (e : ConnectionEvent) × (events ≡ e ∷ []) × (e.cause ≡ timed_out) × (can_be e.fate timed_out ≡ true) × (end ≡ end_of e))
+abbrev pub IsLate : RequestReading → (since moment : ℕ) → List ConnectionEvent → Option ServeEnd → Type 0
+IsLate r since moment events end =
+    ((since + REQUEST_LIMIT ≤ moment) × (e : ConnectionEvent) × (events ≡ e ∷ []) × (e.cause ≡ timed_out) × IsTold r e × (end ≡ end_of e))
     ⊎ ((moment < since + REQUEST_LIMIT) × (events ≡ []) × (end ≡ None))
 
 abbrev pub IsTurnBy : Coming → Waiting → (moment : ℕ) → Bool → List ConnectionEvent → Waiting → Type 0
@@ -68,7 +68,7 @@ IsTurnBy (came bytes) w moment is_stopped events next =
 IsTurnBy (unkept bytes) w moment is_stopped events next = (is_between w.reading ≡ true) × (events ≡ []) × (next.end ≡ Some NoMemory)
 IsTurnBy nothing w moment is_stopped events next =
     (next.reading ≡ w.reading) × (next.since ≡ w.since)
-    × MatchBool (is_between w.reading) ((events ≡ []) × (next.end ≡ idle_end w.since moment is_stopped)) (IsLate w.since moment events next.end)
+    × MatchBool (is_between w.reading) ((events ≡ []) × (next.end ≡ idle_end w.since moment is_stopped)) (IsLate w.reading w.since moment events next.end)
 IsTurnBy over w moment is_stopped events next = (events ≡ []) × (next.end ≡ Some (if is_between w.reading then Closed else Cut))
 IsTurnBy read_failed w moment is_stopped events next = (events ≡ []) × (next.end ≡ Some ReadFault)
 IsTurnBy write_failed w moment is_stopped events next = (events ≡ []) × (next.end ≡ Some WriteFault)

@@ -13,6 +13,7 @@
 #![tactic(auto)]
 
 mod answer;
+mod counting;
 mod engine;
 mod input;
 mod laws;
@@ -22,14 +23,15 @@ mod reads;
 mod requests;
 mod serving;
 mod stage;
-mod texts;
 mod turns;
 
 pub use answer::{QUIET_LIMIT, READ_LIMIT, ReadTurn, SLOW_LIMIT, ServeEnd};
-pub use laws::{in_any_pieces, pieces_do_not_matter, replies_are_determined, whole_connections};
+pub use laws::{
+    doors_do_not_matter, in_any_pieces, pieces_do_not_matter, replies_are_determined,
+    turns_do_not_matter, turns_in_any_pieces, whole_connections,
+};
 pub use lent::{Clock, HasStopMark, Lent};
 pub use reads::{PIECE_LIMIT, Reads, Source};
 pub use requests::Requests;
 pub use serving::serve;
-pub use texts::stopping_text;
 pub use turns::{Arrived, Exchange, IDLE_LIMIT, REQUEST_LIMIT};

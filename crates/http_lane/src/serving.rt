@@ -1,28 +1,28 @@
 //! The loop of a connection.
 ghost use Rattle.std.specs.Prelude.{◌≡◌, ◌+◌, [], ℕ, ◌<◌, ◌≤◌, List, ◌++◌, IsTrue, take, IfOk, Option, Some, Bool, false, true, ◌^◌, ◌-◌, if◌then◌else◌};
-ghost use Rattle.http_lane.specs.Intake.{Submits, intake, Counts, first_conn, connected};
+ghost use Rattle.http_lane.specs.Intake.{Submits, intake, first_conn, connected};
 ghost use Rattle.lane_seq.specs.declared.preparing.Conn.{Conn};
 ghost use Rattle.std.specs.Io.KnownBytes.{Appends};
+ghost use Rattle.http_answer.specs.Answer.{text_of_answer};
 ghost use Rattle.http_lane.specs.Connection.{RequestReading, IsTextOf};
-ghost use Rattle.http_lane.specs.Engine.{Puts, Settled, SettledTo, text_of_answer, Responds, Acts, IsOpenAfter, IsFateOfText, Waits, Served, Sees, answer_to};
-ghost use Rattle.http_lane.specs.Connection.{end_with, ConnectionStanding, in_head, is_between, counts_spans};
+ghost use Rattle.http_lane.specs.Engine.{Puts, Settled, SettledTo, Responds, Acts, IsOpenAfter, IsFateOfText, Waits, Served, Sees, answer_to};
+ghost use Rattle.http_lane.specs.Connection.{end_with, ConnectionStanding, in_head, is_between};
 ghost use Rattle.http_lane.specs.declared.answer.ServeEnd.TheVariants.{Closed, Cut};
 
-use crate::answer::{
-    Brought, EventFate, QUIET_LIMIT, READ_LIMIT, ReadTurn, Response, SLOW_LIMIT, ServeEnd,
-};
+use crate::answer::{Brought, EventFate, QUIET_LIMIT, READ_LIMIT, ReadTurn, SLOW_LIMIT, ServeEnd};
+use crate::counting::count;
 use crate::engine::Engine;
 use crate::lent::{Clock, HasStopMark, Lent};
 use crate::reads::{PIECE_LIMIT, Source};
 use crate::requests::Requests;
-use crate::texts::text_of;
-use drop_ledger::{Count, Counter};
+use drop_ledger::Counter;
+use http_answer::{Response, text_of};
 use http_text::RequestRefusal;
 use inflate::{GzipFault, gunzip};
 use lane_queue::Port;
 use lane_seq::{Conn, Lane, Reply};
+use otlp_encoding::Encoding;
 use otlp_types::Item;
-use span_ids::Reason;
 use std::alloc::Global;
 use std::io::Write;
 
@@ -41,41 +41,19 @@ fn write_text<W: Write>(writer: &mut W, text: &[u8]) -> EventFate
     EventFate::Written
 }
 
-/// Writes an answer.
-pub(crate) fn answer<W: Write>(alloc: Global, writer: &mut W, answer: &Response) -> EventFate
-    ensures puts { Puts (W.contents writer.old) (W.contents writer.new) result (text_of_answer answer.now) }
+/// Writes an answer in an encoding.
+pub(crate) fn answer<W: Write>(
+    alloc: Global,
+    encoding: Encoding,
+    writer: &mut W,
+    answer: &Response,
+) -> EventFate
+    ensures puts { Puts (W.contents writer.old) (W.contents writer.new) result (text_of_answer encoding answer.now) }
     ensures fate { IsFateOfText result }
 {
-    match text_of(alloc, answer) {
-        Ok(text) => write_text(writer, text.as_bytes()),
+    match text_of(alloc, encoding, answer) {
+        Ok(text) => write_text(writer, text.as_slice()),
         Err(_) => EventFate::Unmade,
-    }
-}
-
-/// Counts the spans of a request. `false`: a count would pass 2^64-1.
-fn count<C: Counter>(counts: &mut C, reply: &Reply) -> bool
-    ensures counts { Counts reply.now result (C.counted counts.old) (C.counted counts.new) }
-    ensures spans { result ≡ false → counts_spans reply.now ≡ true }
-{
-    match reply {
-        Reply::Done { spans } => counts.add(Count::Received, *spans).is_ok(),
-        Reply::Partial {
-            spans,
-            invalid,
-            full,
-        } => {
-            let Ok(()) = counts.add(Count::Received, *spans) else {
-                return false;
-            };
-            let Ok(()) = counts.add(Count::Dropped(Reason::InvalidId), *invalid) else {
-                return false;
-            };
-            match counts.add(Count::Dropped(Reason::QueueFull), *full) {
-                Ok(()) => true,
-                Err(_) => false,
-            }
-        }
-        Reply::BadData(_) | Reply::Busy => true,
     }
 }
 
@@ -106,12 +84,13 @@ fn submit<
     conn: &mut Conn,
     counts: &mut Ledger,
     writer: &mut Writer,
+    encoding: Encoding,
     text: &[u8],
     says_close: bool,
 ) -> (bool, EventFate)
-    ensures { (limit : ℕ) (is_packed : Bool) (body : List ℕ) → IsTextOf limit is_packed body text.now → Responds (Submits ShardPort.takes ShardPort.refuses) (Writer.contents writer.old) (Writer.contents writer.new) (intake lane.old conn.old (Ledger.counted counts.old)) (intake lane.new conn.new (Ledger.counted counts.new)) limit is_packed (Some body) says_close result }
+    ensures { (limit : ℕ) (is_packed : Bool) (body : List ℕ) → IsTextOf limit is_packed body text.now → Responds (Submits ShardPort.takes ShardPort.refuses) (Writer.contents writer.old) (Writer.contents writer.new) (intake lane.old conn.old (Ledger.counted counts.old)) (intake lane.new conn.new (Ledger.counted counts.new)) encoding limit is_packed (Some body) says_close result }
 {
-    let reply = lane.submit(lent.alloc, conn, text, lent.clock.now());
+    let reply = lane.submit(lent.alloc, conn, encoding, text, lent.clock.now());
     if !count(counts, &reply) {
         return (says_close, EventFate::Uncounted);
     }
@@ -119,7 +98,7 @@ fn submit<
         reply,
         closes: says_close,
     };
-    (says_close, answer(lent.alloc, writer, &replied))
+    (says_close, answer(lent.alloc, encoding, writer, &replied))
 }
 
 /// The answer to a packed body that gives no text.
@@ -153,11 +132,12 @@ fn unpack<
     conn: &mut Conn,
     counts: &mut Ledger,
     writer: &mut Writer,
+    encoding: Encoding,
     body: &[u8],
     says_close: bool,
     limit: u32,
 ) -> (bool, EventFate)
-    ensures { Responds (Submits ShardPort.takes ShardPort.refuses) (Writer.contents writer.old) (Writer.contents writer.new) (intake lane.old conn.old (Ledger.counted counts.old)) (intake lane.new conn.new (Ledger.counted counts.new)) limit true (Some body.now) says_close result }
+    ensures { Responds (Submits ShardPort.takes ShardPort.refuses) (Writer.contents writer.old) (Writer.contents writer.new) (intake lane.old conn.old (Ledger.counted counts.old)) (intake lane.new conn.new (Ledger.counted counts.new)) encoding limit true (Some body.now) says_close result }
 {
     match gunzip(lent.alloc, body, limit as usize) {
         Ok(text) => submit(
@@ -166,10 +146,11 @@ fn unpack<
             conn,
             counts,
             writer,
+            encoding,
             text.as_slice(),
             says_close,
         ),
-        Err(fault) => (true, answer(lent.alloc, writer, &unfit(fault))),
+        Err(fault) => (true, answer(lent.alloc, encoding, writer, &unfit(fault))),
     }
 }
 
@@ -187,23 +168,32 @@ fn respond<
     conn: &mut Conn,
     counts: &mut Ledger,
     writer: &mut Writer,
+    encoding: Encoding,
     is_packed: bool,
     body: Option<&[u8]>,
     says_close: bool,
     limit: u32,
 ) -> (bool, EventFate)
-    ensures { (given : Option (List ℕ)) → Sees body.entry given → Responds (Submits ShardPort.takes ShardPort.refuses) (Writer.contents writer.old) (Writer.contents writer.new) (intake lane.old conn.old (Ledger.counted counts.old)) (intake lane.new conn.new (Ledger.counted counts.new)) limit is_packed given says_close result }
+    ensures { (given : Option (List ℕ)) → Sees body.entry given → Responds (Submits ShardPort.takes ShardPort.refuses) (Writer.contents writer.old) (Writer.contents writer.new) (intake lane.old conn.old (Ledger.counted counts.old)) (intake lane.new conn.new (Ledger.counted counts.new)) encoding limit is_packed given says_close result }
 {
     let Some(body) = body else {
-        return (true, answer(lent.alloc, writer, &Response::Starved));
+        return (
+            true,
+            answer(lent.alloc, encoding, writer, &Response::Starved),
+        );
     };
     if lent.stop.is_set() {
-        return (true, answer(lent.alloc, writer, &Response::Stopping));
+        return (
+            true,
+            answer(lent.alloc, encoding, writer, &Response::Stopping),
+        );
     }
     if is_packed {
-        return unpack(lent, lane, conn, counts, writer, body, says_close, limit);
+        return unpack(
+            lent, lane, conn, counts, writer, encoding, body, says_close, limit,
+        );
     }
-    submit(lent, lane, conn, counts, writer, body, says_close)
+    submit(lent, lane, conn, counts, writer, encoding, body, says_close)
 }
 
 /// Does what the bytes bring next, if they bring anything. The last flag says whether a request was answered.
@@ -226,24 +216,25 @@ fn act<
     ensures acts { (r : RequestReading) → Parser.stands engine.old r → Acts Parser.stands Parser.awaits (Submits ShardPort.takes ShardPort.refuses) (Writer.contents writer.old) (Writer.contents writer.new) (intake lane.old conn.old (Ledger.counted counts.old)) (intake lane.new conn.new (Ledger.counted counts.new)) r result engine.new }
     ensures less { IsOpenAfter result → Parser.left engine.new < Parser.left engine.old }
 {
+    let encoding = engine.encoding();
     match engine.advance() {
         Brought::Nothing => None,
         Brought::Refused { refusal, is_head } => {
             let refused = Response::Refused { refusal, is_head };
-            Some((true, answer(lent.alloc, writer, &refused), true))
+            Some((true, answer(lent.alloc, encoding, writer, &refused), true))
         }
         Brought::Close => {
             lent.stop.set();
             Some((
                 true,
-                answer(lent.alloc, writer, &Response::CloseAsked),
+                answer(lent.alloc, encoding, writer, &Response::CloseAsked),
                 true,
             ))
         }
         Brought::Accepted { awaited: true } => {
             Some((
                 false,
-                answer(lent.alloc, writer, &Response::Continue),
+                answer(lent.alloc, encoding, writer, &Response::Continue),
                 false,
             ))
         }
@@ -255,7 +246,7 @@ fn act<
         } => {
             let body = engine.body();
             let (closes, fate) = respond(
-                lent, lane, conn, counts, writer, is_packed, body, says_close, limit,
+                lent, lane, conn, counts, writer, encoding, is_packed, body, says_close, limit,
             );
             Some((closes, fate, true))
         }
@@ -334,7 +325,8 @@ fn wait<E: Engine, W: Write, S: HasStopMark>(
         return None;
     }
     if row >= SLOW_LIMIT {
-        return end_with(answer(alloc, writer, &Response::TimedOut), true);
+        let told = answer(alloc, engine.encoding(), writer, &Response::TimedOut);
+        return end_with(told, true);
     }
     None
 }

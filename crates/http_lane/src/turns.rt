@@ -2,23 +2,25 @@
 ghost use Rattle.std.specs.Prelude.{◌≡◌, ◌+◌, ◌<◌, ◌≤◌, [], ℕ, List, Option, None, Bool, false, IfSome, IfNone, length, nat_le, ◌||◌, if◌then◌else◌};
 ghost use Rattle.http_lane.specs.Intake.{Submits, intake};
 ghost use Rattle.std.specs.Io.KnownBytes.{Appends};
-ghost use Rattle.http_lane.specs.Connection.{RequestReading, ConnectionEvent, in_head, is_between, grown, Writes, submissions};
+ghost use Rattle.http_lane.specs.Connection.{RequestReading, ConnectionEvent, in_head, is_between, encoding_in, grown, Writes, submissions};
 ghost use Rattle.http_lane.specs.declared.answer.ServeEnd.TheVariants.{Closed, Cut};
 ghost use Rattle.http_lane.specs.Engine.{Does, IsAtRest, Settled};
 ghost use Rattle.http_lane.specs.Requests.{Awaits};
 ghost use Rattle.http_lane.specs.Turns.{Waiting, waiting, AwaitsBy, Coming, IsTaken, IsTurnBy, nothing};
 ghost use Rattle.http_text.specs.declared.allowed.Allowed.{Allowed};
 
-use crate::answer::{Response, ServeEnd};
+use crate::answer::ServeEnd;
 use crate::engine::Engine;
 use crate::lent::{Clock, HasStopMark, Lent};
 use crate::reads::PIECE_LIMIT;
 use crate::requests::Requests;
 use crate::serving::{answer, end_with, settle};
 use drop_ledger::Counter;
+use http_answer::Response;
 use http_text::Allowed;
 use lane_queue::Port;
 use lane_seq::{Conn, Lane};
+use otlp_encoding::Encoding;
 use otlp_types::Item;
 use std::alloc::Global;
 use std::io::Write;
@@ -65,6 +67,16 @@ impl Exchange {
         ensures { (allowed : Allowed) (w : Waiting) → AwaitsBy allowed Awaits self.now.engine w.reading → result ≡ is_between w.reading }
     {
         self.engine.is_none()
+    }
+
+    /// What the answer to the request under way is written in.
+    fn encoding(&self) -> Encoding
+        ensures { (allowed : Allowed) (w : Waiting) → AwaitsBy allowed Awaits self.now.engine w.reading → result ≡ encoding_in w.reading }
+    {
+        match &self.engine {
+            Some(engine) => engine.encoding(),
+            None => Encoding::Json,
+        }
     }
 
     /// A turn that brought bytes. What is allowed to the client is the same at each turn.
@@ -147,7 +159,8 @@ impl Exchange {
             return None;
         }
         if is_over(self.since, REQUEST_LIMIT, moment) {
-            return end_with(answer(alloc, writer, &Response::TimedOut), true);
+            let told = answer(alloc, self.encoding(), writer, &Response::TimedOut);
+            return end_with(told, true);
         }
         None
     }

@@ -20,6 +20,7 @@ use std::time::Clock;
 /// What is allowed to clients by default.
 const PLAIN: Allowed = Allowed {
     gzip: false,
+    protobuf: false,
     close: true,
     body_limit: 4_194_304,
 };

@@ -116,6 +116,7 @@ fn how(column: &str) -> Setup {
         is_stopped: says(column, "stopped"),
         allowed: Allowed {
             gzip: says(column, "gzip"),
+            protobuf: false,
             close: !says(column, "never_closed"),
             body_limit: limit(column),
         },

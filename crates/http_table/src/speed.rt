@@ -15,6 +15,7 @@ pub fn serve_once(alloc: Global, input: &[u8]) -> Result<u64, AllocError> {
         is_stopped: false,
         allowed: Allowed {
             gzip: true,
+            protobuf: false,
             close: true,
             body_limit: 4_194_304,
         },

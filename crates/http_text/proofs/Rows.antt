@@ -2,12 +2,14 @@
 -- They serve the definitions that `judge` and `cut_on` promise.
 use Rattle.std.proofs.Common.{◌≡◌, ◌++◌, true, false, refl, List, ℕ, Some, None, [], ◌∷◌, arith}
 use Rattle.std.specs.Prelude.{codes, map}
+use Rattle.otlp_encoding.specs.declared.encoding.Encoding.{Encoding}
+use Rattle.otlp_encoding.specs.declared.encoding.Encoding.TheVariants.{Json, Protobuf}
 use Rattle.http_text.specs.declared.allowed.Allowed.{Allowed}
 use Rattle.http_text.specs.declared.lines.TheConstants.{PART_LIMIT}
 use Rattle.http_text.specs.declared.request.TheConstants.{FIELD_LIMIT}
 use Rattle.http_text.specs.declared.request.HeadVerdict.{HeadVerdict}
 use Rattle.http_text.specs.declared.request.HeadVerdict.TheVariants.{Refused, Close, Post as Posted}
-use Rattle.http_text.specs.declared.request.RequestRefusal.TheVariants.{BadRequest, NotFound, MethodNotAllowed, Forbidden, UnsupportedMediaType, GzipIsOff, UnsupportedCoding, BodyTooLarge}
+use Rattle.http_text.specs.declared.request.RequestRefusal.TheVariants.{BadRequest, NotFound, MethodNotAllowed, Forbidden, UnsupportedMediaType, NeitherMediaType, GzipIsOff, UnsupportedCoding, BodyTooLarge}
 use Rattle.http_text.specs.declared.request.Framing.TheVariants.{Length, Chunked}
 use Rattle.http_text.specs.Body.{BySize, waits, refuses}
 use Rattle.http_text.specs.Lines.{head_len, trailer_len, line_len, blank_len}
@@ -16,22 +18,25 @@ use Rattle.http_text.specs.Head.{fits, posted, routed, verdict_by, field_lines}
 use Rattle.httparse.specs.Grammar.{trim_ows}
 use Rattle.httparse.specs.Ascii.{crlf_bytes}
 
--- what is allowed by default; with packed bodies; where an address of its own closes; and with bodies of 20 MiB, or of 7
--- bytes
+-- what is allowed by default; with packed bodies; where an address of its own closes; with bodies of 20 MiB, or of 7
+-- bytes; and with bodies in protobuf
 abbrev by_default : Allowed
-by_default = record { gzip = false; close = true; body_limit = 4194304 }
+by_default = record { gzip = false; protobuf = false; close = true; body_limit = 4194304 }
 
 abbrev with_gzip : Allowed
-with_gzip = record { gzip = true; close = true; body_limit = 4194304 }
+with_gzip = record { gzip = true; protobuf = false; close = true; body_limit = 4194304 }
 
 abbrev never_closed : Allowed
-never_closed = record { gzip = false; close = false; body_limit = 4194304 }
+never_closed = record { gzip = false; protobuf = false; close = false; body_limit = 4194304 }
 
 abbrev with_large : Allowed
-with_large = record { gzip = false; close = false; body_limit = 20971520 }
+with_large = record { gzip = false; protobuf = false; close = false; body_limit = 20971520 }
 
 abbrev with_small : Allowed
-with_small = record { gzip = true; close = true; body_limit = 7 }
+with_small = record { gzip = true; protobuf = false; close = true; body_limit = 7 }
+
+abbrev with_protobuf : Allowed
+with_protobuf = record { gzip = false; protobuf = true; close = true; body_limit = 4194304 }
 
 abbrev line : List ℕ → List ℕ
 line text = text ++ crlf_bytes
@@ -44,7 +49,7 @@ get_fields : field_lines (line (codes "GET /v1/traces HTTP/1.1") ++ line (codes 
 get_fields = refl
 
 posted_verdict : verdict_by by_default (codes "POST") (codes "/v1/traces") 1 ((codes "host", codes "x") ∷ (codes "CONTENT-TYPE", codes "Application/json ; charset=utf-8") ∷ (codes "Content-Length", codes "002") ∷ [])
-    ≡ Posted (record { framing = Length 2; expects_continue = false; is_packed = false; says_close = false })
+    ≡ Posted (record { framing = Length 2; encoding = Json; expects_continue = false; is_packed = false; says_close = false })
 unfolding trim_ows
 posted_verdict = refl
 
@@ -102,7 +107,7 @@ verdict_of_version minor =
 
 by_version : verdict_of_version 0 ∷ verdict_of_version 1 ∷ verdict_of_version 2 ∷ []
     ≡ Refused BadRequest false
-    ∷ Posted (record { framing = Length 7; expects_continue = false; is_packed = false; says_close = false })
+    ∷ Posted (record { framing = Length 7; encoding = Json; expects_continue = false; is_packed = false; says_close = false })
     ∷ Refused BadRequest false ∷ []
 unfolding verdict_of_version host_field json_field length_field trim_ows
 by_version = refl
@@ -195,7 +200,7 @@ traces_of_others : verdict_by never_closed (codes "POST") (codes "/close") 1 ((c
     ∷ verdict_by by_default (codes "GET") (codes "/close") 1 ((codes "Host", codes "evil.example") ∷ [])
     ∷ verdict_by by_default (codes "POST") (codes "/v1/traces") 1 ((codes "Host", codes "evil.example") ∷ json_field ∷ (codes "Origin", codes "http://a.example") ∷ []) ∷ []
     ≡ Refused NotFound false ∷ Refused MethodNotAllowed false
-    ∷ Posted (record { framing = Length 0; expects_continue = false; is_packed = false; says_close = false }) ∷ []
+    ∷ Posted (record { framing = Length 0; encoding = Json; expects_continue = false; is_packed = false; says_close = false }) ∷ []
 unfolding json_field trim_ows
 traces_of_others = refl
 
@@ -221,12 +226,12 @@ unfolding json_field
 media_types = refl
 
 json_in_chunks : posted by_default (codes "POST") (json_field ∷ (codes "Expect", codes "100-Continue") ∷ []) Chunked
-    ≡ Posted (record { framing = Chunked; expects_continue = true; is_packed = false; says_close = false })
+    ≡ Posted (record { framing = Chunked; encoding = Json; expects_continue = true; is_packed = false; says_close = false })
 unfolding json_field trim_ows
 json_in_chunks = refl
 
 json_that_closes : posted by_default (codes "POST") (json_field ∷ (codes "Connection", codes "keep-alive, Close") ∷ []) (Length 3)
-    ≡ Posted (record { framing = Length 3; expects_continue = false; is_packed = false; says_close = true })
+    ≡ Posted (record { framing = Length 3; encoding = Json; expects_continue = false; is_packed = false; says_close = true })
 unfolding json_field trim_ows
 json_that_closes = refl
 
@@ -271,9 +276,9 @@ verdict_of_length allowed digits = verdict_by allowed (codes "POST") (codes "/v1
 by_limit : verdict_of_length with_large (codes "20971520") ∷ verdict_of_length with_large (codes "20971521")
     ∷ verdict_of_length with_small (codes "7") ∷ verdict_of_length with_small (codes "8")
     ∷ verdict_of_length by_default (codes "20971520") ∷ []
-    ≡ Posted (record { framing = Length 20971520; expects_continue = false; is_packed = false; says_close = false })
+    ≡ Posted (record { framing = Length 20971520; encoding = Json; expects_continue = false; is_packed = false; says_close = false })
     ∷ Refused BodyTooLarge false
-    ∷ Posted (record { framing = Length 7; expects_continue = false; is_packed = false; says_close = false })
+    ∷ Posted (record { framing = Length 7; encoding = Json; expects_continue = false; is_packed = false; says_close = false })
     ∷ Refused BodyTooLarge false ∷ Refused BodyTooLarge false ∷ []
 unfolding verdict_of_length host_field json_field trim_ows
 by_limit = refl
@@ -316,7 +321,7 @@ refused_codings = refl
 
 gzip_taken : posted with_gzip (codes "POST")
     (json_field ∷ coded (codes "x-gzip") ∷ (codes "Expect", codes "100-continue") ∷ []) (Length 21)
-    ≡ Posted (record { framing = Length 21; expects_continue = true; is_packed = true; says_close = false })
+    ≡ Posted (record { framing = Length 21; encoding = Json; expects_continue = true; is_packed = true; says_close = false })
 unfolding json_field coded trim_ows
 gzip_taken = refl
 
@@ -328,3 +333,19 @@ deflate_beyond_the_limit : posted with_gzip (codes "POST") (json_field ∷ coded
     ≡ Refused UnsupportedCoding false
 unfolding json_field coded trim_ows
 deflate_beyond_the_limit = refl
+
+-- a body in protobuf is taken where the setting says so, with any parameter and in either case; one in JSON as ever
+abbrev protobuf_field : Header
+protobuf_field = (codes "content-type", codes "Application/X-Protobuf; q=1")
+
+abbrev post_in : Encoding → HeadVerdict
+post_in encoding = Posted (record { framing = Length 5; encoding = encoding; expects_continue = false; is_packed = false; says_close = false })
+
+encodings_by_type : posted with_protobuf (codes "POST") (protobuf_field ∷ []) (Length 5)
+    ∷ posted with_protobuf (codes "POST") (json_field ∷ []) (Length 5)
+    ∷ posted with_protobuf (codes "POST") ((codes "Content-Type", codes "application/protobuf") ∷ []) (Length 5)
+    ∷ posted with_protobuf (codes "POST") (protobuf_field ∷ protobuf_field ∷ []) (Length 5)
+    ∷ posted by_default (codes "POST") (protobuf_field ∷ []) (Length 5) ∷ []
+    ≡ post_in Protobuf ∷ post_in Json ∷ Refused NeitherMediaType false ∷ Refused NeitherMediaType false ∷ Refused UnsupportedMediaType false ∷ []
+unfolding trim_ows json_field
+encodings_by_type = refl

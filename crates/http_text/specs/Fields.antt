@@ -6,6 +6,9 @@ use Rattle.std.specs.Str.Parse.{digits_value}
 use Rattle.std.specs.Str.{str_eq_ignore_ascii_case}
 use Rattle.httparse.specs.Ascii.{comma, semicolon}
 use Rattle.httparse.specs.Grammar.{trim_ows}
+use Rattle.otlp_encoding.specs.declared.encoding.Encoding.{Encoding}
+use Rattle.otlp_encoding.specs.declared.encoding.Encoding.TheVariants.{Json, Protobuf}
+use Rattle.otlp_encoding.specs.MediaTypes.{media_type as media_type_of}
 use Rattle.http_text.specs.declared.allowed.Allowed.{Allowed}
 use Rattle.http_text.specs.declared.request.Framing.{Framing}
 use Rattle.http_text.specs.declared.request.Framing.TheVariants.{Length, Chunked}
@@ -43,13 +46,19 @@ only _ = None
 abbrev pub media_type : List ℕ → List ℕ
 media_type value = trim_ows (before_first (λ b. b == semicolon) value)
 
--- one `Content-Type`, of `application/json`
-abbrev pub is_json_by : Option (List ℕ) → Bool
-is_json_by None = false
-is_json_by (Some value) = str_eq_ignore_ascii_case (media_type value) (codes "application/json")
+-- one `Content-Type`, of this media type
+abbrev pub is_of_by : List ℕ → Option (List ℕ) → Bool
+is_of_by media None = false
+is_of_by media (Some value) = str_eq_ignore_ascii_case (media_type value) media
 
-abbrev pub is_json : List Header → Bool
-is_json headers = is_json_by (only (values_named (codes "content-type") headers))
+abbrev pub is_of : List ℕ → List Header → Bool
+is_of media headers = is_of_by media (only (values_named (codes "content-type") headers))
+
+-- what the body is written in: JSON, or protobuf where that is taken
+abbrev pub encoding_of : Allowed → List Header → Option Encoding
+encoding_of allowed headers =
+    if is_of (media_type_of Json) headers then Some Json
+    else (if allowed.protobuf && is_of (media_type_of Protobuf) headers then Some Protobuf else None)
 
 -- the header has this name, and its value passes the test
 abbrev pub has : List ℕ → (List ℕ → Bool) → Header → Bool

@@ -3,16 +3,17 @@ use Rattle.std.specs.Prelude.{◌≡◌, ℕ, ◌-◌, ◌<◌, ◌≤◌, ◌�
 use Rattle.httparse.specs.Ascii.{line_feed}
 use Rattle.httparse.specs.Grammar.{RequestHead, ReadsRequest}
 use Rattle.httparse.specs.Spans.{name_and_value}
+use Rattle.otlp_encoding.specs.declared.encoding.Encoding.{Encoding}
 use Rattle.http_text.specs.declared.allowed.Allowed.{Allowed}
 use Rattle.http_text.specs.Lines.{Cut, Whole, Waits, TooLong}
 use Rattle.http_text.specs.declared.request.TheConstants.{FIELD_LIMIT}
 use Rattle.http_text.specs.declared.request.Framing.{Framing}
 use Rattle.http_text.specs.declared.request.Framing.TheVariants.{Length, Chunked}
 use Rattle.http_text.specs.declared.request.RequestRefusal.{RequestRefusal}
-use Rattle.http_text.specs.declared.request.RequestRefusal.TheVariants.{HeadTooLarge, BadRequest, NotFound, MethodNotAllowed, Forbidden, UnsupportedMediaType, GzipIsOff, UnsupportedCoding, BodyTooLarge}
+use Rattle.http_text.specs.declared.request.RequestRefusal.TheVariants.{HeadTooLarge, BadRequest, NotFound, MethodNotAllowed, Forbidden, UnsupportedMediaType, NeitherMediaType, GzipIsOff, UnsupportedCoding, BodyTooLarge}
 use Rattle.http_text.specs.declared.request.HeadVerdict.{HeadVerdict}
 use Rattle.http_text.specs.declared.request.HeadVerdict.TheVariants.{Refused, Close, Post as Posted}
-use Rattle.http_text.specs.Fields.{Header, values_named, framing, is_json, is_packed, is_taken, says_close, expects_continue, is_foreign}
+use Rattle.http_text.specs.Fields.{Header, values_named, framing, encoding_of, is_packed, is_taken, says_close, expects_continue, is_foreign}
 use Rattle.http_text.specs.Lines.{head_len, blank_len, cut}
 
 -- the fields of a head's text: the lines between the request line and the empty line at the end
@@ -34,13 +35,24 @@ fits limit Chunked = true
 abbrev pub coding_refusal : (is_packed : Bool) → RequestRefusal
 coding_refusal is_packed = if is_packed then GzipIsOff else UnsupportedCoding
 
+-- why a media type isn't taken
+abbrev pub type_refusal : (takes_protobuf : Bool) → RequestRefusal
+type_refusal takes_protobuf = if takes_protobuf then NeitherMediaType else UnsupportedMediaType
+
+-- a request for the traces whose body is written in this, by its other fields
+abbrev pub posted_in : Encoding → Allowed → List ℕ → List Header → Framing → HeadVerdict
+posted_in encoding allowed method headers framed =
+    if not (is_taken allowed headers) then refused method (coding_refusal (is_packed headers))
+    else (if not (fits allowed.body_limit framed) then refused method BodyTooLarge
+    else Posted (record { framing = framed; encoding = encoding; expects_continue = expects_continue headers; is_packed = is_packed headers; says_close = says_close headers }))
+
+abbrev pub posted_by : Option Encoding → Allowed → List ℕ → List Header → Framing → HeadVerdict
+posted_by None allowed method headers framed = refused method (type_refusal allowed.protobuf)
+posted_by (Some encoding) allowed method headers framed = posted_in encoding allowed method headers framed
+
 -- a request for the traces, by its fields
 abbrev pub posted : Allowed → List ℕ → List Header → Framing → HeadVerdict
-posted allowed method headers framed =
-    if not (is_json headers) then refused method UnsupportedMediaType
-    else (if not (is_taken allowed headers) then refused method (coding_refusal (is_packed headers))
-    else (if not (fits allowed.body_limit framed) then refused method BodyTooLarge
-    else Posted (record { framing = framed; expects_continue = expects_continue headers; is_packed = is_packed headers; says_close = says_close headers })))
+posted allowed method headers framed = posted_by (encoding_of allowed headers) allowed method headers framed
 
 -- the target at which the collector is closed, where that is allowed
 abbrev pub is_close : Allowed → List ℕ → Bool

@@ -5,6 +5,8 @@
 pub struct Allowed {
     /// Bodies packed by gzip are taken.
     pub gzip: bool,
+    /// Bodies in protobuf are taken, beside those in JSON.
+    pub protobuf: bool,
     /// `POST /close` closes the collector; else there is no such target.
     pub close: bool,
     /// A body may have so many bytes, as it comes and unpacked.

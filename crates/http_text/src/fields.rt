@@ -8,13 +8,14 @@ ghost use Rattle.std.specs.Str.Parse.{digits_value};
 ghost use Rattle.httparse.specs.Ascii.{comma, semicolon};
 ghost use Rattle.httparse.specs.Grammar.{skip_ows, trim_ows};
 ghost use Rattle.httparse.specs.Spans.{IsHeaderWithin, header_bytes};
-ghost use Rattle.http_text.specs.Fields.{values_named, is_number, framing, media_type, is_json, is_plain, codings, is_gzip, is_packed, is_taken, has, has_word, says_close, expects_continue, host_name, is_bracketed, is_own_host, is_own_origin, is_own_site, is_foreign_field, is_foreign};
+ghost use Rattle.http_text.specs.Fields.{values_named, is_number, framing, media_type, is_of, encoding_of, is_plain, codings, is_gzip, is_packed, is_taken, has, has_word, says_close, expects_continue, host_name, is_bracketed, is_own_host, is_own_origin, is_own_site, is_foreign_field, is_foreign};
 ghost use Rattle.http_text.specs.Named.{Seen};
 
 use crate::allowed::Allowed;
 use crate::request::Framing;
 use httparse::is_space_or_tab;
 use httparse::spans::HeaderSpan;
+use otlp_encoding::Encoding;
 
 /// The value of the fields with one name.
 #[derive(Clone, Copy)]
@@ -117,15 +118,29 @@ fn media_type(value: &[u8]) -> &[u8]
     }
 }
 
-/// One `Content-Type`, of `application/json`.
-pub fn is_json(text: &[u8], spans: &[HeaderSpan]) -> bool
+/// One `Content-Type`, of this media type.
+fn is_of(media: &[u8], text: &[u8], spans: &[HeaderSpan]) -> bool
     requires { All (IsHeaderWithin (length text.now)) spans.now }
-    ensures { result ≡ is_json (map (header_bytes text.now) spans.now) }
+    ensures { result ≡ is_of media.now (map (header_bytes text.now) spans.now) }
 {
     match find_named(text, spans, b"content-type") {
-        NamedFields::One(value) => eq_ignore_case(media_type(value), b"application/json"),
+        NamedFields::One(value) => eq_ignore_case(media_type(value), media),
         _ => false,
     }
+}
+
+/// What the body is written in, if that is taken.
+pub fn encoding_of(allowed: Allowed, text: &[u8], spans: &[HeaderSpan]) -> Option<Encoding>
+    requires { All (IsHeaderWithin (length text.now)) spans.now }
+    ensures { result ≡ encoding_of allowed (map (header_bytes text.now) spans.now) }
+{
+    if is_of(Encoding::Json.media_type().as_bytes(), text, spans) {
+        return Some(Encoding::Json);
+    }
+    if allowed.protobuf && is_of(Encoding::Protobuf.media_type().as_bytes(), text, spans) {
+        return Some(Encoding::Protobuf);
+    }
+    None
 }
 
 /// No `Content-Encoding` but `identity`.

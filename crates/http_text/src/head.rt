@@ -4,18 +4,19 @@ ghost use Rattle.httparse.specs.Ascii.{line_feed};
 ghost use Rattle.httparse.specs.Grammar.{RequestHead};
 ghost use Rattle.httparse.specs.Spans.{IsHeaderWithin, IsRequestWithin, header_bytes};
 ghost use Rattle.http_text.specs.Lines.{blank_len};
-ghost use Rattle.http_text.specs.Head.{IsHead, IsVerdict, field_lines, verdict_by, refused, routed, posted, coding_refusal, closing};
+ghost use Rattle.http_text.specs.Head.{IsHead, IsVerdict, field_lines, verdict_by, refused, routed, posted, posted_in, type_refusal, coding_refusal, closing};
 ghost use Rattle.http_text.specs.Spans.{IsHeadAt};
 
 use crate::allowed::Allowed;
 use crate::fields::{
-    NamedFields, expects_continue, find_named, framing, is_foreign, is_json, is_packed, is_taken,
-    says_close,
+    NamedFields, encoding_of, expects_continue, find_named, framing, is_foreign, is_packed,
+    is_taken, says_close,
 };
 use crate::lines::blank_len;
 use crate::request::{FIELD_LIMIT, Framing, HeadVerdict, Post, RequestRefusal};
 use httparse::Status;
 use httparse::spans::{EMPTY_HEADER_SPAN, HeaderSpan, RequestSpans, parse_request};
+use otlp_encoding::Encoding;
 
 /// Where the parts of a head are, if the whole text is one (RFC 9112, section 2.1).
 pub fn read_head(text: &[u8], headers: &mut [HeaderSpan]) -> Option<RequestSpans>
@@ -150,6 +151,17 @@ fn coding_refusal(is_packed: bool) -> RequestRefusal
     }
 }
 
+/// Why a media type isn't taken.
+fn type_refusal(takes_protobuf: bool) -> RequestRefusal
+    ensures { result ≡ type_refusal takes_protobuf }
+{
+    if takes_protobuf {
+        RequestRefusal::NeitherMediaType
+    } else {
+        RequestRefusal::UnsupportedMediaType
+    }
+}
+
 /// What a request for traces comes to, by its other fields.
 fn posted(
     allowed: Allowed,
@@ -161,9 +173,24 @@ fn posted(
     requires { All (IsHeaderWithin (length text.now)) headers.now }
     ensures { result ≡ posted allowed method.now (map (header_bytes text.now) headers.now) framed }
 {
-    if !is_json(text, headers) {
-        return refused(method, RequestRefusal::UnsupportedMediaType);
+    match encoding_of(allowed, text, headers) {
+        Some(encoding) => posted_in(encoding, allowed, method, text, headers, framed),
+        None => refused(method, type_refusal(allowed.protobuf)),
     }
+}
+
+/// The same, where the body is written in this.
+fn posted_in(
+    encoding: Encoding,
+    allowed: Allowed,
+    method: &[u8],
+    text: &[u8],
+    headers: &[HeaderSpan],
+    framed: Framing,
+) -> HeadVerdict
+    requires { All (IsHeaderWithin (length text.now)) headers.now }
+    ensures { result ≡ posted_in encoding allowed method.now (map (header_bytes text.now) headers.now) framed }
+{
     if !is_taken(allowed, text, headers) {
         return refused(method, coding_refusal(is_packed(text, headers)));
     }
@@ -172,6 +199,7 @@ fn posted(
     }
     HeadVerdict::Post(Post {
         framing: framed,
+        encoding,
         expects_continue: expects_continue(text, headers),
         is_packed: is_packed(text, headers),
         says_close: says_close(text, headers),

@@ -4,7 +4,7 @@
 //! `specs/Head` and `specs/Fields`. Nothing here reads or writes: `http_lane` does.
 //!
 //! ```
-//! let allowed = Allowed { gzip: true, close: false, body_limit: 4_194_304 };
+//! let allowed = Allowed { gzip: true, protobuf: false, close: false, body_limit: 4_194_304 };
 //! match cut_on(stream, search) {
 //!     Cutting::Whole(length) => match judge(&stream[..length], allowed) {
 //!         HeadVerdict::Post(post) => read_body(post.framing),

@@ -1,4 +1,5 @@
 //! What the head of a request asks for (RFC 9112, sections 2 to 7).
+use otlp_encoding::Encoding;
 use std::error::Error;
 use std::fmt;
 
@@ -18,8 +19,10 @@ pub enum RequestRefusal {
     MethodNotAllowed,
     /// 403: a request to close that a page of another site may have sent.
     Forbidden,
-    /// 415: no `application/json`.
+    /// 415: no `application/json`, which alone is taken.
     UnsupportedMediaType,
+    /// 415: neither `application/json` nor `application/x-protobuf`.
+    NeitherMediaType,
     /// 415: packed by gzip, which isn't taken.
     GzipIsOff,
     /// 415: another coding of the content.
@@ -44,6 +47,9 @@ impl fmt::Display for RequestRefusal {
             RequestRefusal::MethodNotAllowed => f.write_str("the method is not POST"),
             RequestRefusal::Forbidden => f.write_str("the request may be of another site"),
             RequestRefusal::UnsupportedMediaType => f.write_str("the content is no JSON"),
+            RequestRefusal::NeitherMediaType => {
+                f.write_str("the content is neither JSON nor protobuf")
+            }
             RequestRefusal::GzipIsOff => f.write_str("the content is gzip, which is off"),
             RequestRefusal::UnsupportedCoding => {
                 f.write_str("the content has a coding that is not taken")
@@ -70,6 +76,8 @@ pub enum Framing {
 pub struct Post {
     /// How long the body is.
     pub framing: Framing,
+    /// What the body is written in, unpacked.
+    pub encoding: Encoding,
     /// It waits for `100 Continue`.
     pub expects_continue: bool,
     /// The body is packed by gzip (RFC 9110, section 8.4.1.3).

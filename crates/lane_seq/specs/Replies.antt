@@ -1,30 +1,7 @@
--- Replies to requests, as HTTP statuses and JSON bodies.
-use Rattle.std.specs.Prelude.{◌≡◌, ℕ, ◌+◌, ◌<◌, List, ◌++◌, codes, decimal}
+-- Replies to requests.
+use Rattle.std.specs.Prelude.{◌≡◌, ℕ, ◌+◌, ◌<◌}
 use Rattle.lane_seq.specs.declared.reply.Reply.{Reply}
 use Rattle.lane_seq.specs.declared.reply.Reply.TheVariants.{Done, Partial, BadData, Busy}
-use Rattle.lane_seq.specs.declared.reply.BadData.TheVariants.{Json, Shape}
-
--- the HTTP status of a reply
-abbrev pub status_of : Reply → ℕ
-status_of (Done spans) = 200
-status_of (Partial spans invalid full) = 200
-status_of (BadData cause) = 400
-status_of Busy = 503
-
--- what a partial success says of the spans that were not taken
-abbrev pub partial_success : (invalid full : ℕ) → List ℕ
-partial_success invalid full =
-    codes "{\"partialSuccess\":{\"errorMessage\":\"invalid id: " ++ decimal invalid
-    ++ codes ", queue full: " ++ decimal full
-    ++ codes "\",\"rejectedSpans\":\"" ++ decimal (invalid + full) ++ codes "\"}}"
-
--- the JSON body of a reply
-abbrev pub body_of : Reply → List ℕ
-body_of (Done spans) = codes "{}"
-body_of (Partial spans invalid full) = partial_success invalid full
-body_of (BadData Json) = codes "{\"message\":\"not JSON\"}"
-body_of (BadData Shape) = codes "{\"message\":\"wrong shape\"}"
-body_of Busy = codes "{\"message\":\"busy\"}"
 
 -- a reply to a request of which no span was received
 abbrev pub IsRefusal : Reply → Type 0

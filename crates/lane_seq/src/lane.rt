@@ -1,8 +1,6 @@
 //! A lane: the one place at which the spans of its connections are numbered, routed and pushed.
 ghost use Rattle.std.specs.Prelude.{◌≡◌, ℕ, ◌+◌, ◌-◌, ◌^◌, ◌<◌, ◌≤◌, false, Some, length, IsTrue};
-ghost use Rattle.serde_json.specs.Data.{Data};
-ghost use Rattle.otlp_reading.specs.Decoding.{IsJson, IsNoJson, IsNoRequest};
-ghost use Rattle.otlp_reading.specs.Reading.{request_of};
+ghost use Rattle.otlp_request.specs.Reads.{Reads, IsRefusedFor};
 ghost use Rattle.otlp_flatten.specs.Flat.{records_of};
 ghost use Rattle.otlp_types.specs.declared.request.Request.{Request};
 ghost use Rattle.lane_seq.specs.Numbers.{arrivals_from};
@@ -11,8 +9,10 @@ ghost use Rattle.lane_seq.specs.Pushes.{LaneState, Receives};
 
 use crate::preparing::{Conn, Prepared, count_invalid, prepare};
 use crate::pushing::{lacks_room, push_all, reply_to};
-use crate::reply::{BadData, Reply};
+use crate::reply::Reply;
 use lane_queue::Port;
+use otlp_encoding::Encoding;
+use otlp_request::BadData;
 use otlp_types::Item;
 use span_ids::{ConnKey, Moment};
 use std::alloc::Global;
@@ -136,13 +136,19 @@ impl<P> Lane<P> {
 }
 
 impl<P: Port<Item>> Lane<P> {
-    /// Takes a request that came on a connection at a moment: its spans get the connection's next numbers, and each
+    /// Takes a request that came on a connection in an encoding at a moment: its spans get the connection's next numbers, and each
     /// that has valid ids is pushed once, in document order, to the port of its route. After `BadData` and `Busy`
     /// nothing was pushed and no number was used. A lane that is [`Lane::asking_again`] answers `Busy` where a queue
     /// lacks room.
-    pub fn submit(&mut self, alloc: Global, conn: &mut Conn, body: &[u8], moment: Moment) -> Reply
-        ensures received { OnReceived result ((d : Data) × (request : Request) × IsJson body.now d
-            × (request_of self.old.keeps_doubles d ≡ Some request)
+    pub fn submit(
+        &mut self,
+        alloc: Global,
+        conn: &mut Conn,
+        encoding: Encoding,
+        body: &[u8],
+        moment: Moment,
+    ) -> Reply
+        ensures received { OnReceived result ((request : Request) × Reads encoding self.old.keeps_doubles body.now request
             × Receives P.takes P.refuses (arrivals_from conn.old.key conn.old.next moment (records_of request))
             self.old.ports result self.new.ports
             × (conn.new ≡ record conn.old {
@@ -151,11 +157,10 @@ impl<P: Port<Item>> Lane<P> {
             })) }
         ensures lane { self.new ≡ record self.old { ports = self.new.ports } }
         ensures ports { length self.new.ports ≡ length self.old.ports }
-        ensures json { result ≡ Reply.BadData BadData.Json → IsNoJson body.now }
-        ensures shape { result ≡ Reply.BadData BadData.Shape → IsNoRequest self.old.keeps_doubles body.now }
+        ensures bad { (cause : BadData) → result ≡ Reply.BadData cause → IsRefusedFor encoding self.old.keeps_doubles body.now cause }
         ensures refused { IsRefusal result → (self.new ≡ self.old) × (conn.new ≡ conn.old) }
     {
-        match prepare(alloc, self.keeps_doubles, conn, body, moment) {
+        match prepare(alloc, self.keeps_doubles, conn, encoding, body, moment) {
             Ok(prepared) => self.receive_if_room(conn, prepared),
             Err(refusal) => refusal,
         }

@@ -5,7 +5,7 @@
 //! ```
 //! let mut lane = Lane::new(0, ports).keeping_doubles(true);
 //! let mut conn = lane.connect();
-//! let reply = lane.submit(alloc, &mut conn, body, moment);
+//! let reply = lane.submit(alloc, &mut conn, Encoding::Json, body, moment);
 //! ```
 #![tactic(auto)]
 
@@ -19,5 +19,5 @@ mod routing;
 pub use lane::{Lane, LaneEnd};
 pub use law::list_pushes_are_determined;
 pub use preparing::{Conn, Prepared, count_invalid, prepare};
-pub use reply::{BadData, MAX_BODY_LEN, Reply, put};
+pub use reply::Reply;
 pub use routing::route;

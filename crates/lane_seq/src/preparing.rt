@@ -1,17 +1,16 @@
 //! A request becomes arrivals with the next numbers of its connection.
 ghost use Rattle.std.specs.Prelude.{◌≡◌, ◌+◌, ◌^◌, ◌<◌, ◌≤◌, Some, length, filter, IfOk, IfErr};
 ghost use Rattle.std.specs.Result.{IsErrOf};
-ghost use Rattle.serde_json.specs.Data.{Data};
-ghost use Rattle.otlp_reading.specs.Decoding.{IsJson, IsNoJson, IsNoRequest};
-ghost use Rattle.otlp_reading.specs.Reading.{request_of};
+ghost use Rattle.otlp_request.specs.Reads.{Reads, IsRefusedFor};
 ghost use Rattle.otlp_flatten.specs.Flat.{records_of};
 ghost use Rattle.otlp_types.specs.declared.request.Request.{Request};
 ghost use Rattle.lane_seq.specs.Numbers.{arrivals_from, is_invalid};
 ghost use Rattle.lane_seq.specs.Replies.{IsRefusal};
 
-use crate::reply::{BadData, Reply};
+use crate::reply::Reply;
+use otlp_encoding::Encoding;
 use otlp_flatten::flatten;
-use otlp_json::{DecodeError, decode};
+use otlp_request::{BadData, DecodeError, decode};
 use otlp_types::{Arrival, Record};
 use span_ids::{ArrivalKey, ConnKey, Moment};
 use std::alloc::{AllocError, Global};
@@ -32,7 +31,7 @@ pub struct Prepared {
     pub arrivals: Vec<Arrival>,
 }
 
-/// Reads a request that came on a connection at a moment, and numbers its spans. It makes every growth that taking
+/// Reads a request that came on a connection in an encoding at a moment, and numbers its spans. It makes every growth that taking
 /// the request needs, and changes nothing.
 ///
 /// The reply of a refusal is `BadData` where the body is no request, or `Busy` where memory was refused or the
@@ -41,20 +40,19 @@ pub fn prepare(
     alloc: Global,
     keeps_doubles: bool,
     conn: &Conn,
+    encoding: Encoding,
     body: &[u8],
     moment: Moment,
 ) -> Result<Prepared, Reply>
-    ensures read { IfOk result (λ prepared. (d : Data) × (request : Request) × IsJson body.now d × (request_of keeps_doubles d ≡ Some request)
+    ensures read { IfOk result (λ prepared. (request : Request) × Reads encoding keeps_doubles body.now request
         × (prepared.arrivals.items ≡ arrivals_from conn.now.key conn.now.next moment (records_of request))) }
     ensures numbers { IfOk result (λ prepared. conn.now.next + length prepared.arrivals.items < 2 ^ 64) }
-    ensures json { IsErrOf result (Reply.BadData BadData.Json) → IsNoJson body.now }
-    ensures shape { IsErrOf result (Reply.BadData BadData.Shape) → IsNoRequest keeps_doubles body.now }
+    ensures bad { (cause : BadData) → IsErrOf result (Reply.BadData cause) → IsRefusedFor encoding keeps_doubles body.now cause }
     ensures refusal { IfErr result IsRefusal }
 {
-    let request = match decode(alloc, keeps_doubles, body) {
+    let request = match decode(alloc, encoding, keeps_doubles, body) {
         Ok(request) => request,
-        Err(DecodeError::Json) => return Err(Reply::BadData(BadData::Json)),
-        Err(DecodeError::Shape) => return Err(Reply::BadData(BadData::Shape)),
+        Err(DecodeError::Bad(cause)) => return Err(Reply::BadData(cause)),
         Err(DecodeError::NoMemory) => return Err(Reply::Busy),
     };
     let Ok(records) = flatten(alloc, request) else {

@@ -26,7 +26,7 @@ by_reply Busy f r k = r tt
 
 module _ {P : Type 0} (takes : P → Item → P → Type 0) (refuses : P → P → Type 0) where
   key_kept : (s : Submission) (old new : Intake P) → Submits takes refuses old s new → new.conn.key ≡ old.conn.key
-  key_kept s old new p = by_reply s.reply p.received (λ r. ap (λ (c : Conn). c.key) (p.refused r).1) (λ f. ap (λ (c : Conn). c.key) f.5)
+  key_kept s old new p = by_reply s.reply p.received (λ r. ap (λ (c : Conn). c.key) (p.refused r).1) (λ f. ap (λ (c : Conn). c.key) f.3)
 
   pub keys_kept : (ss : List Submission) (old new : Intake P) → SubmitsAll (Submits takes refuses) old ss new → new.conn.key ≡ old.conn.key
   keys_kept [] old new p = ap (λ (i : Intake P). i.conn.key) p

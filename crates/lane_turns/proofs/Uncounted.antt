@@ -9,6 +9,7 @@ use Rattle.http_lane.specs.declared.answer.ServeEnd.{ServeEnd}
 use Rattle.http_lane.specs.declared.answer.ServeEnd.TheVariants.{Closed, Cut, Quiet}
 use Rattle.http_lane.specs.declared.turns.TheConstants.{IDLE_LIMIT}
 use Rattle.http_lane.specs.Connection.{RequestReading, Cause, accepts, refusal, close_asked, starved, stopping, timed_out, submitted, ConnectionEvent, Settles, end_of, end_with, closes, can_be, is_between, Submission, submissions, submission_by}
+use Rattle.otlp_encoding.specs.declared.encoding.Encoding.{Encoding}
 use Rattle.http_lane.specs.Turns.{Waiting, Coming, came, unkept, nothing, over, read_failed, write_failed, dismissed, IsTurnBy, IsLate, idle_end}
 use Rattle.lane_turns.specs.Acts.{Act, any_uncounted, act_uncounted, acts_uncounted, is_full_end}
 
@@ -29,35 +30,35 @@ written_ends : (closing : Bool) → false ≡ is_full_end (end_with Written clos
 written_ends true = refl
 written_ends false = refl
 
-event_full : (fate : EventFate) (cause : Cause) → can_be fate cause ≡ true → any_uncounted (submission_by fate cause) ≡ is_full_end (end_with fate (closes cause))
-event_full Written (accepts awaited) can = refl
-event_full Written (refusal r is_head) can = refl
-event_full Written close_asked can = refl
-event_full Written starved can = refl
-event_full Written stopping can = refl
-event_full Written timed_out can = refl
-event_full Written (submitted body moment reply closing) can = written_ends closing
-event_full Uncounted (accepts awaited) can = absurd (cc can)
-event_full Uncounted (refusal r is_head) can = absurd (cc can)
-event_full Uncounted close_asked can = absurd (cc can)
-event_full Uncounted starved can = absurd (cc can)
-event_full Uncounted stopping can = absurd (cc can)
-event_full Uncounted timed_out can = absurd (cc can)
-event_full Uncounted (submitted body moment reply closing) can = refl
-event_full Unmade (accepts awaited) can = refl
-event_full Unmade (refusal r is_head) can = refl
-event_full Unmade close_asked can = refl
-event_full Unmade starved can = refl
-event_full Unmade stopping can = refl
-event_full Unmade timed_out can = refl
-event_full Unmade (submitted body moment reply closing) can = refl
-event_full Unwritten (accepts awaited) can = refl
-event_full Unwritten (refusal r is_head) can = refl
-event_full Unwritten close_asked can = refl
-event_full Unwritten starved can = refl
-event_full Unwritten stopping can = refl
-event_full Unwritten timed_out can = refl
-event_full Unwritten (submitted body moment reply closing) can = refl
+event_full : (fate : EventFate) (encoding : Encoding) (cause : Cause) → can_be fate cause ≡ true → any_uncounted (submission_by fate encoding cause) ≡ is_full_end (end_with fate (closes cause))
+event_full Written encoding (accepts awaited) can = refl
+event_full Written encoding (refusal r is_head) can = refl
+event_full Written encoding close_asked can = refl
+event_full Written encoding starved can = refl
+event_full Written encoding stopping can = refl
+event_full Written encoding timed_out can = refl
+event_full Written encoding (submitted body moment reply closing) can = written_ends closing
+event_full Uncounted encoding (accepts awaited) can = absurd (cc can)
+event_full Uncounted encoding (refusal r is_head) can = absurd (cc can)
+event_full Uncounted encoding close_asked can = absurd (cc can)
+event_full Uncounted encoding starved can = absurd (cc can)
+event_full Uncounted encoding stopping can = absurd (cc can)
+event_full Uncounted encoding timed_out can = absurd (cc can)
+event_full Uncounted encoding (submitted body moment reply closing) can = refl
+event_full Unmade encoding (accepts awaited) can = refl
+event_full Unmade encoding (refusal r is_head) can = refl
+event_full Unmade encoding close_asked can = refl
+event_full Unmade encoding starved can = refl
+event_full Unmade encoding stopping can = refl
+event_full Unmade encoding timed_out can = refl
+event_full Unmade encoding (submitted body moment reply closing) can = refl
+event_full Unwritten encoding (accepts awaited) can = refl
+event_full Unwritten encoding (refusal r is_head) can = refl
+event_full Unwritten encoding close_asked can = refl
+event_full Unwritten encoding starved can = refl
+event_full Unwritten encoding stopping can = refl
+event_full Unwritten encoding timed_out can = refl
+event_full Unwritten encoding (submitted body moment reply closing) can = refl
 
 none_full : (events : List ConnectionEvent) (end : Option ServeEnd) → events ≡ [] → is_full_end end ≡ false → any_uncounted (submissions events) ≡ is_full_end end
 none_full events end none e = ap (λ (es : List ConnectionEvent). any_uncounted (submissions es)) none ∙ sym e
@@ -66,11 +67,11 @@ settles_full : (r : RequestReading) (events : List ConnectionEvent) (end : Optio
 settles_full r [] end last h = sym (ap is_full_end h.1)
 settles_full r (e ∷ events) end last h = go (end_of e) refl h.3 (λ k. settles_full h.0 events end last k)
   where
-    head : any_uncounted (submission_by e.fate e.cause) ≡ is_full_end (end_of e)
-    head = event_full e.fate e.cause h.2
+    head : any_uncounted (submission_by e.fate e.encoding e.cause) ≡ is_full_end (end_of e)
+    head = event_full e.fate e.encoding e.cause h.2.0
 
-    both : any_uncounted (submissions (e ∷ events)) ≡ (any_uncounted (submission_by e.fate e.cause) || any_uncounted (submissions events))
-    both = list_any-append (λ (s : Submission). not s.is_counted) (submission_by e.fate e.cause) (submissions events)
+    both : any_uncounted (submissions (e ∷ events)) ≡ (any_uncounted (submission_by e.fate e.encoding e.cause) || any_uncounted (submissions events))
+    both = list_any-append (λ (s : Submission). not s.is_counted) (submission_by e.fate e.encoding e.cause) (submissions events)
 
     go : (o : Option ServeEnd) → end_of e ≡ o → MatchOption o (Settles h.0 events end last) (λ why. (events ≡ []) × (end ≡ Some why)) → (Settles h.0 events end last → any_uncounted (submissions events) ≡ is_full_end end)
         → any_uncounted (submissions (e ∷ events)) ≡ is_full_end end
@@ -96,12 +97,12 @@ over_ends false = refl
 pub over_full : (end : ServeEnd) (b : Bool) → end ≡ (if b then Closed else Cut) → false ≡ is_full_end (Some end)
 over_full end b e = sym (ap (λ (why : ServeEnd). is_full_end (Some why)) e ∙ over_ends b)
 
-late_full : (since moment : ℕ) (events : List ConnectionEvent) (end : Option ServeEnd) → IsLate since moment events end → any_uncounted (submissions events) ≡ is_full_end end
-late_full since moment events end (inl h) =
+late_full : (r : RequestReading) (since moment : ℕ) (events : List ConnectionEvent) (end : Option ServeEnd) → IsLate r since moment events end → any_uncounted (submissions events) ≡ is_full_end end
+late_full r since moment events end (inl h) =
     ap (λ (es : List ConnectionEvent). any_uncounted (submissions es)) h.2
-    ∙ (list_any-append (λ (s : Submission). not s.is_counted) (submission_by h.1.fate h.1.cause) []
-    ∙ (or_false (any_uncounted (submission_by h.1.fate h.1.cause)) ∙ (event_full h.1.fate h.1.cause (ap (can_be h.1.fate) h.3 ∙ h.4) ∙ sym (ap is_full_end h.5))))
-late_full since moment events end (inr h) = none_full events end h.1 (ap is_full_end h.2)
+    ∙ (list_any-append (λ (s : Submission). not s.is_counted) (submission_by h.1.fate h.1.encoding h.1.cause) []
+    ∙ (or_false (any_uncounted (submission_by h.1.fate h.1.encoding h.1.cause)) ∙ (event_full h.1.fate h.1.encoding h.1.cause h.4.0 ∙ sym (ap is_full_end h.5))))
+late_full r since moment events end (inr h) = none_full events end h.1 (ap is_full_end h.2)
 
 pub turn_full : (coming : Coming) (w : Waiting) (moment : ℕ) (is_stopped : Bool) (events : List ConnectionEvent) (next : Waiting) → IsTurnBy coming w moment is_stopped events next
     → any_uncounted (submissions events) ≡ is_full_end next.end
@@ -109,9 +110,9 @@ turn_full (came bytes) w moment is_stopped events next h = settles_full _ events
 turn_full (unkept bytes) w moment is_stopped events next h = none_full events next.end h.1 (ap is_full_end h.2)
 turn_full nothing w moment is_stopped events next h = go (is_between w.reading) h.2
   where
-    go : (b : Bool) → MatchBool b ((events ≡ []) × (next.end ≡ idle_end w.since moment is_stopped)) (IsLate w.since moment events next.end) → any_uncounted (submissions events) ≡ is_full_end next.end
+    go : (b : Bool) → MatchBool b ((events ≡ []) × (next.end ≡ idle_end w.since moment is_stopped)) (IsLate w.reading w.since moment events next.end) → any_uncounted (submissions events) ≡ is_full_end next.end
     go true k = none_full events next.end k.0 (ap is_full_end k.1 ∙ idle_ends w.since moment is_stopped)
-    go false k = late_full w.since moment events next.end k
+    go false k = late_full w.reading w.since moment events next.end k
 turn_full over w moment is_stopped events next h = none_full events next.end h.0 (ap is_full_end h.1 ∙ over_ends (is_between w.reading))
 turn_full read_failed w moment is_stopped events next h = none_full events next.end h.0 (ap is_full_end h.1)
 turn_full write_failed w moment is_stopped events next h = none_full events next.end h.0 (ap is_full_end h.1)

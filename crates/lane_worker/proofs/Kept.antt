@@ -34,7 +34,7 @@ module _ (capacity : ℕ) where
   by_reply Busy f r k = r tt
 
   submits : (old new : Intake (EndState Item)) (s : Submission) → Submits (TakesItem capacity) (IsRefused capacity) old s new → queues new.lane.ports ≡ queues old.lane.ports
-  submits old new s p = by_reply s.reply p.received (λ r. ap (λ (l : LaneState (EndState Item)). queues l.ports) (p.refused r).0) (λ f. all _ old.lane.ports new.lane.ports f.4.refused f.4.pushed)
+  submits old new s p = by_reply s.reply p.received (λ r. ap (λ (l : LaneState (EndState Item)). queues l.ports) (p.refused r).0) (λ f. all _ old.lane.ports new.lane.ports f.2.refused f.2.pushed)
 
   pub kept : (ss : List Submission) (old new : Intake (EndState Item)) → SubmitsAll (Submits (TakesItem capacity) (IsRefused capacity)) old ss new → queues new.lane.ports ≡ queues old.lane.ports
   kept [] old new p = ap (λ (i : Intake (EndState Item)). queues i.lane.ports) p

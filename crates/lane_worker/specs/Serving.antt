@@ -12,6 +12,9 @@ use Rattle.http_lane.specs.declared.answer.ServeEnd.TheVariants.{CounterOverflow
 use Rattle.http_lane.specs.Engine.{KnownReader, Served}
 use Rattle.http_lane.specs.Intake.{Submits, intake, first_conn, connected}
 use Rattle.lane_turns.specs.Acts.{LaneNow, lane_now, ServesTurns}
+use Rattle.lane_turns.specs.Driven.{IsDriven}
+use Rattle.lane_turns.specs.declared.serving.Next.{Next}
+use Rattle.lane_turns.specs.declared.serving.Done.{Done}
 
 -- what was known of a connection's reader and writer when the acceptor gave it
 pub record Connection : Type 0 where
@@ -55,9 +58,13 @@ module _ {F X : Type 0} (gives : F → Option X → F → Type 0) (known : X →
   abbrev pub HasServed : (old : F) → (before : LaneAt) → (new : F) → (after : LaneAt) → (is_full : Bool) → Type 0
   HasServed old before new after is_full = (given : List X) × ServesAll given old before new after is_full
 
--- many connections were served at once, turn by turn, by a lane whose queues may hold so many items
-abbrev pub ServesMany : (allowed : Allowed) → (capacity : ℕ) → (before after : LaneAt) → (is_full : Bool) → Type 0
-ServesMany allowed capacity before after is_full = ServesTurns (Submits (TakesItem capacity) (IsRefused capacity)) allowed before after is_full
+module _ {D : Type 0} (asks : D → Next → ℕ → List ℕ → D → Type 0) (hears : D → Done → List ℕ → D → Type 0) (allowed : Allowed) (capacity : ℕ) where
+  -- many connections were served at once, turn by turn, by a lane whose queues may hold so many items; and round by
+  -- round the lane did what its driver said
+  abbrev pub ServesMany : (driver : D) → (before : LaneAt) → (last : D) → (after : LaneAt) → (is_full : Bool) → Type 0
+  ServesMany driver before last after is_full =
+      ServesTurns (Submits (TakesItem capacity) (IsRefused capacity)) allowed before after is_full
+      × IsDriven asks hears (Submits (TakesItem capacity) (IsRefused capacity)) allowed driver before last after is_full
 
 -- the end after an End of this number was pushed there
 abbrev pub with_end : (number : ℕ) → EndState Item → EndState Item

@@ -89,7 +89,7 @@ pub struct ByTurns<D> {
 impl<D: Driver> LaneServer for ByTurns<D> {
     ghost use Rattle.lane_worker.specs.Serving.{ServesMany};
 
-    ghost serves = { λ capacity old before new after is_full. ServesMany old.allowed capacity before after is_full };
+    ghost serves = { λ capacity old before new after is_full. ServesMany D.asks D.hears old.allowed capacity old.driver before new.driver after is_full };
 
     fn serve_all<
         'l,

@@ -68,7 +68,6 @@ fn of_exporter(key: &str) -> Option<&'static str>
         "sending_queue" => Some("`queue_batches` is: how many batches wait"),
         "retry_on_failure" => Some("`retry_initial_ms`, `retry_max_ms` and `retry_for_ms` are"),
         "compression" => Some("leave it out: bodies are sent as they are"),
-        "encoding" => Some("leave it out: JSON is sent"),
         "tls" => Some("leave it out: nothing is encrypted, which a proxy can do"),
         _ => None,
     }

@@ -22,7 +22,9 @@ use Rattle.otlp_reading.specs.declared.value.ValueKey.TheVariants as key
 use Rattle.otlp_reading.specs.Kinds.{◌>>=◌, field, text, u32, u64, enum, read_or, items, each, list_of, message, inner, i64_value}
 use Rattle.serde_json.specs.Find.{as_str, as_bool, as_object}
 use Rattle.otlp_reading.specs.Reading.{OrDiscarded, kept, discarded, all_kept, double_of, kept_double, key_value, values, pairs, value_members, at_most_one, value_by, value_of_member, value_in, value_to, any_value, attributes, ids, status, event, link, span, resource, scope, grouped, scope_spans, resource_spans, request}
-use Rattle.otlp_json.specs.Discarding.{holds_double, is_of_double, left, dropped_of, event_left, link_left, span_left, resource_left, scope_left, scope_spans_left, resource_spans_left, without_doubles, DoublesAreLeftOut, NoneOf, NoneOfSpan, NoneOfScope, NoneOfResource, HasNoDoubles}
+use Rattle.otlp_types.specs.HoldsDouble.{holds_double, is_of_double}
+use Rattle.otlp_types.proofs.HoldsDouble.{holds-Empty, holds-Str, holds-Truth, holds-Int, holds-Double, holds-Bytes, holds-pair, holds-Array, holds-KvList}
+use Rattle.otlp_json.specs.Discarding.{left, dropped_of, event_left, link_left, span_left, resource_left, scope_left, scope_spans_left, resource_spans_left, without_doubles, DoublesAreLeftOut, NoneOf, NoneOfSpan, NoneOfScope, NoneOfResource, HasNoDoubles}
 
 -- where the first reads x, the second reads f of it
 pub record Follows {A B : Type 0} (f : A → B) (a : Option A) (b : Option B) : Type 0 where
@@ -148,42 +150,6 @@ all_kept_less holds xs =
     by : (b : Bool) → cond b (cond (list_any holds (kept xs)) None (Some (kept xs))) None ≡ less (list_any holds) (cond b (Some (kept xs)) None)
     by true = refl
     by false = refl
-
--- which values hold a double
-pub holds-Empty : holds_double Empty ≡ false
-holds-Empty = search (rules, the_lemmas)
-
-pub holds-Str : (s : List ℕ) → holds_double (Str s) ≡ false
-holds-Str s = search (rules, the_lemmas)
-
-pub holds-Truth : (b : Bool) → holds_double (Truth b) ≡ false
-holds-Truth b = search (rules, the_lemmas)
-
-pub holds-Int : (z : ℤ) → holds_double (Int z) ≡ false
-holds-Int z = search (rules, the_lemmas)
-
-pub holds-Double : (x : Float) → holds_double (Double x) ≡ true
-holds-Double x = search (rules, the_lemmas)
-
-pub holds-Bytes : (s : List ℕ) → holds_double (Bytes s) ≡ false
-holds-Bytes s = search (rules, the_lemmas)
-
-pub holds-pair : (p : KeyValue) → is_of_double p ≡ holds_double p.value
-holds-pair p = search (rules, the_lemmas)
-
-any_of : {A : Type 0} (f : A → Bool) (xs : List A) → list_any (λ b. b) (map f xs) ≡ list_any f xs
-any_of f [] = refl
-any_of f (x ∷ xs) = ap (λ b. f x || b) (any_of f xs)
-
-pub holds-Array : (vs : List AnyValue) → holds_double (Array vs) ≡ list_any holds_double vs
-holds-Array vs =
-    let folded : holds_double (Array vs) ≡ list_any (λ b. b) (map holds_double vs) = search (rules, the_lemmas) in
-    folded ∙ any_of holds_double vs
-
-pub holds-KvList : (ps : List KeyValue) → holds_double (KvList ps) ≡ list_any is_of_double ps
-holds-KvList ps =
-    let folded : holds_double (KvList ps) ≡ list_any (λ b. b) (map is_of_double ps) = search (rules, the_lemmas) in
-    folded ∙ any_of is_of_double ps
 
 -- a reading of values that holds no double follows itself
 plain : {B : Type 0} (make : B → AnyValue) → ((x : B) → holds_double (make x) ≡ false) → (o : Option B) → Follows (less holds_double) (option_map (λ x. Some (make x)) o) (option_map (λ x. Some (make x)) o)

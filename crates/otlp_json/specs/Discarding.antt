@@ -1,12 +1,10 @@
 -- What is left of a request where doubles are discarded: each attribute that holds one, at any depth, is left out and
 -- counted.
 use Rattle.std.specs.Prelude.{◌≡◌, ℕ, ◌+◌, ◌-◌, ◌^◌, ◌==◌, min, not, Bool, true, false, List, map, count_by, if◌then◌else◌, Some}
-use Rattle.std.specs.List.{filter, list_any, AllByRecursion}
+use Rattle.std.specs.List.{filter, AllByRecursion}
 use Rattle.serde_json.specs.Data.{Data}
-use Rattle.otlp_types.specs.declared.value.AnyValue.{AnyValue}
-use Rattle.otlp_types.specs.declared.value.AnyValue.TheOpen.{AnyValue-F}
-use Rattle.otlp_types.specs.declared.value.AnyValue.TheFolds.{fold-AnyValue}
-use Rattle.otlp_types.specs.declared.value.KeyValue.{KeyValue, KeyValue-F, fold-KeyValue}
+use Rattle.otlp_types.specs.HoldsDouble.{is_of_double}
+use Rattle.otlp_types.specs.declared.value.KeyValue.{KeyValue}
 use Rattle.otlp_types.specs.declared.span.Event.{Event}
 use Rattle.otlp_types.specs.declared.span.Link.{Link}
 use Rattle.otlp_types.specs.declared.span.Span.{Span}
@@ -16,30 +14,6 @@ use Rattle.otlp_types.specs.declared.request.ScopeSpans.{ScopeSpans}
 use Rattle.otlp_types.specs.declared.request.ResourceSpans.{ResourceSpans}
 use Rattle.otlp_types.specs.declared.request.Request.{Request}
 use Rattle.otlp_reading.specs.Reading.{request_of}
-
--- ---- values
-
--- one level, with whether each value inside holds a double
-abbrev pub value_step : AnyValue-F Bool Bool → Bool
-value_step AnyValue-F.Empty = false
-value_step (AnyValue-F.Str s) = false
-value_step (AnyValue-F.Bool b) = false
-value_step (AnyValue-F.Int n) = false
-value_step (AnyValue-F.Double x) = true
-value_step (AnyValue-F.Array vs) = list_any (λ b. b) vs
-value_step (AnyValue-F.KvList ps) = list_any (λ b. b) ps
-value_step (AnyValue-F.Bytes s) = false
-
-abbrev pub pair_step : KeyValue-F Bool Bool → Bool
-pair_step p = p.value
-
--- whether a value holds a double
-abbrev pub holds_double : AnyValue → Bool
-holds_double = fold-AnyValue Bool Bool value_step pair_step
-
--- whether an attribute does
-abbrev pub is_of_double : KeyValue → Bool
-is_of_double = fold-KeyValue Bool Bool value_step pair_step
 
 -- ---- messages
 

@@ -1,2 +1,3 @@
+pub mod HoldsDouble
 pub mod Samples
 pub mod Sent

@@ -1,5 +1,7 @@
 //! Attributes and their values (OTLP 1.x, `common.proto` v1).
 ghost use Rattle.std.specs.Prelude.{◌≡◌, IfOk};
+ghost use Rattle.std.specs.List.{list_any};
+ghost use Rattle.otlp_types.specs.HoldsDouble.{holds_double, is_of_double};
 
 use crate::double::Double;
 use crate::list::{List, Text, TryClone};
@@ -87,4 +89,49 @@ impl TryClone for KeyValue {
     fn try_clone(&self, alloc: Global) -> Result<KeyValue, AllocError> {
         clone_pair(alloc, self)
     }
+}
+
+impl AnyValue {
+    /// Whether it holds a double, at any depth. It takes no memory.
+    pub fn holds_double(&self) -> bool
+        ensures { result ≡ holds_double self.now }
+    {
+        value_holds_double(self)
+    }
+}
+
+#[cycle(doubles)]
+fn value_holds_double(value: &AnyValue) -> bool
+    ensures { result ≡ holds_double value.now }
+{
+    match value {
+        AnyValue::Double(_) => true,
+        AnyValue::Array(items) => any_holds_double(items.as_slice()),
+        AnyValue::KvList(pairs) => any_is_of_double(pairs.as_slice()),
+        _ => false,
+    }
+}
+
+#[cycle(doubles)]
+fn any_holds_double(values: &[AnyValue]) -> bool
+    ensures { result ≡ list_any holds_double values.now }
+{
+    for value in values {
+        if value_holds_double(value) {
+            return true;
+        }
+    }
+    false
+}
+
+#[cycle(doubles)]
+fn any_is_of_double(pairs: &[KeyValue]) -> bool
+    ensures { result ≡ list_any is_of_double pairs.now }
+{
+    for pair in pairs {
+        if value_holds_double(&pair.value) {
+            return true;
+        }
+    }
+    false
 }

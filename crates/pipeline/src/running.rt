@@ -98,7 +98,7 @@ pub fn run_by_turns<
     requires drivers { vec_len drivers ≡ config.lanes }
     requires failures { Output.failures sink < 2 ^ 64 - 1 }
     ensures sink { SinkAnswers (Output.taken sink) (Output.failures sink) (Output.taken result.0) (Output.failures result.0) result.1 }
-    ensures ran { RunTells (receives_by_turns (λ (s : ByTurns Poller). s.allowed)) TickSource.gives config drivers.items ticks (Output.taken sink) (Output.failures sink) (Output.taken result.0) (Output.failures result.0) result.1 }
+    ensures ran { RunTells (receives_by_turns (λ (s : ByTurns Poller). s.allowed) (λ (s : ByTurns Poller). s.driver) Poller.asks Poller.hears) TickSource.gives config drivers.items ticks (Output.taken sink) (Output.failures sink) (Output.taken result.0) (Output.failures result.0) result.1 }
     ensures begun { is_none result.2 ≡ has_begun result.1 }
     ensures back { IfSome result.2 (λ back. (back.0.items ≡ drivers.items) × (back.1 ≡ ticks)) }
 {

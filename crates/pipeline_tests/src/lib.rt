@@ -9,6 +9,8 @@ mod memory;
 #[cfg(test)]
 mod overlap;
 #[cfg(test)]
+mod scripted;
+#[cfg(test)]
 mod starved;
 #[cfg(test)]
 mod ticks;

@@ -70,6 +70,7 @@ impl Acceptor for MemoryAcceptor {
             reader,
             allowed: Allowed {
                 gzip: false,
+                protobuf: false,
                 close: true,
                 body_limit: 4_194_304,
             },

@@ -1,5 +1,6 @@
 //! When ticks are due.
-use collector_serve::{SteadyClock, StopMark, Ticker};
+use collector_board::StopMark;
+use collector_serve::{SteadyClock, Ticker};
 use http_lane::{Clock as Moments, HasStopMark};
 use lane_worker::Ticks;
 use std::alloc::{AllocError, Global};

@@ -1,10 +1,12 @@
 //! The backend.
 ghost use Rattle.std.specs.Prelude.{None};
 
+use crate::bodies::protobuf_body;
 use crate::rejected::rejected_in;
 use crate::watch::Watch;
 use batch_post::{AttemptOutcome, Backend, BatchFate};
 use http1::Header;
+use otlp_encoding::Encoding;
 use post_http::{BackendResponse, Patience, Posted, head_of, post};
 use std::alloc::Global;
 use std::io::ErrorKind;
@@ -23,8 +25,10 @@ pub struct BackendSettings<'t> {
     pub authority: &'t str,
     /// The path of requests.
     pub path: &'t str,
-    /// The fields of requests, but for the length of the body.
+    /// The fields of requests in JSON, but for the length of the body.
     pub fields: &'t [Header<'t>],
+    /// Those of requests in protobuf, where batches go so that can be written so.
+    pub protobuf: Option<&'t [Header<'t>]>,
     /// How long an attempt may take.
     pub timeout: u64,
     /// How long batches are tried once the collector closes.
@@ -113,11 +117,15 @@ impl<'t, V: Watch, R: Net<Stream = TcpStream> + Clock + RandomSource> SocketBack
 
     /// Tries to send a batch, and tells how many of its spans the backend rejected.
     fn send(&mut self, batch: &[u8]) -> AttemptOutcome {
-        let Some(answer) = self.exchange(batch) else {
+        let (answer, encoding) = match self.in_protobuf(batch) {
+            Some((fields, body)) => (self.exchange(fields, &body), Encoding::Protobuf),
+            None => (self.exchange(self.settings.fields, batch), Encoding::Json),
+        };
+        let Some(answer) = answer else {
             return AttemptOutcome::NoAnswer;
         };
         if answer.status == 200 {
-            let rejected = rejected_in(self.alloc, &answer.body);
+            let rejected = rejected_in(self.alloc, encoding, &answer.body);
             self.watch.rejected(rejected);
         }
         let asked = answer
@@ -126,10 +134,17 @@ impl<'t, V: Watch, R: Net<Stream = TcpStream> + Clock + RandomSource> SocketBack
         AttemptOutcome::Answered(answer.status, asked)
     }
 
-    /// Posts a batch on a connection, and keeps that where it can be used again.
-    fn exchange(&mut self, batch: &[u8]) -> Option<BackendResponse> {
+    /// The fields and the body of a batch in protobuf, where it is to go so and can.
+    fn in_protobuf(&self, batch: &[u8]) -> Option<(&'t [Header<'t>], Vec<u8>)> {
+        let fields = self.settings.protobuf?;
+        let body = protobuf_body(self.alloc, batch).ok()?;
+        Some((fields, body))
+    }
+
+    /// Posts a body on a connection, and keeps that where it can be used again.
+    fn exchange(&mut self, fields: &[Header<'_>], batch: &[u8]) -> Option<BackendResponse> {
         let path = self.settings.path.as_bytes();
-        let head = head_of(self.alloc, path, self.settings.fields, batch.len()).ok()?;
+        let head = head_of(self.alloc, path, fields, batch.len()).ok()?;
         let limit = self.limit();
         let patience = Attempt {
             rt: self.rt,

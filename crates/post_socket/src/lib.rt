@@ -9,6 +9,7 @@
 //!     authority: "127.0.0.1:4318",
 //!     path: "/v1/traces",
 //!     fields: &fields,
+//!     protobuf: None,
 //!     timeout: 5_000,
 //!     close_wait: 5_000,
 //! };
@@ -18,9 +19,11 @@
 #![tactic(auto)]
 
 mod backend;
+mod bodies;
 mod rejected;
 mod watch;
 
 pub use backend::{BackendSettings, SocketBackend};
+pub use bodies::{NoBody, protobuf_body};
 pub use rejected::rejected_in;
 pub use watch::Watch;

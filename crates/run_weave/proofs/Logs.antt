@@ -5,9 +5,7 @@ use Rattle.std.proofs.lemmas.List.Elements.{filter-append}
 use Rattle.std.proofs.lemmas.List.Sums.{sum_by-cons}
 use Rattle.std.specs.Prelude.{if◌then◌else◌, slice_index}
 use Rattle.std.proofs.lemmas.List.{get_or-set_other}
-use Rattle.serde_json.specs.Data.{Data}
-use Rattle.otlp_reading.specs.Decoding.{IsJson}
-use Rattle.otlp_reading.specs.Reading.{request_of}
+use Rattle.otlp_request.specs.Reads.{Reads}
 use Rattle.otlp_flatten.specs.Flat.{records_of}
 use Rattle.otlp_types.specs.declared.request.Request.{Request}
 use Rattle.otlp_types.specs.declared.arrival.Record.{Record}
@@ -251,13 +249,13 @@ module _ (capacity number : ℕ) (first : List (EndState Item)) where
       → (came : List Arrival) × Came old.at s s.reply came × OnConn (is_full || not s.is_counted) (log new (old.received ++ came))
   takes is_full old s new o h = go s.reply refl h.received h.refused
     where
-      go : (reply : Reply) → s.reply ≡ reply → OnReceived reply ((d : Data) × (request : Request) × IsJson s.body d × (request_of old.at.lane.keeps_doubles d ≡ Some request)
+      go : (reply : Reply) → s.reply ≡ reply → OnReceived reply ((request : Request) × Reads s.encoding old.at.lane.keeps_doubles s.body request
           × Receives (TakesItem capacity) (IsRefused capacity) (arrivals_from old.at.conn.key old.at.conn.next s.moment (records_of request)) old.at.lane.ports s.reply new.lane.ports
           × (new.conn ≡ record old.at.conn { next = old.at.conn.next + length (arrivals_from old.at.conn.key old.at.conn.next s.moment (records_of request)) }))
           → (IsRefusal reply → (new.lane ≡ old.at.lane) × (new.conn ≡ old.at.conn))
           → (came : List Arrival) × Came old.at s reply came × OnConn (is_full || not s.is_counted) (log new (old.received ++ came))
-      go (Done n) is r same = (arrivals_from old.at.conn.key old.at.conn.next s.moment (records_of r.1), (r.0, r.1, r.2, r.3, refl), receives is_full old s.moment (records_of r.1) s.reply s.is_counted new o h.lane r.4 r.5 h.counts)
-      go (Partial n i f) is r same = (arrivals_from old.at.conn.key old.at.conn.next s.moment (records_of r.1), (r.0, r.1, r.2, r.3, refl), receives is_full old s.moment (records_of r.1) s.reply s.is_counted new o h.lane r.4 r.5 h.counts)
+      go (Done n) is r same = (arrivals_from old.at.conn.key old.at.conn.next s.moment (records_of r.0), (r.0, r.1, refl), receives is_full old s.moment (records_of r.0) s.reply s.is_counted new o h.lane r.2 r.3 h.counts)
+      go (Partial n i f) is r same = (arrivals_from old.at.conn.key old.at.conn.next s.moment (records_of r.0), (r.0, r.1, refl), receives is_full old s.moment (records_of r.0) s.reply s.is_counted new o h.lane r.2 r.3 h.counts)
       go (BadData cause) is r same = let kept = same tt in ([], refl, refused_counted is_full old s new (ap additions_of is) o kept.0 kept.1 h.counts)
       go Busy is r same = let kept = same tt in ([], refl, refused_counted is_full old s new (ap additions_of is) o kept.0 kept.1 h.counts)
 

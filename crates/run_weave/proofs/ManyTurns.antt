@@ -23,6 +23,8 @@ use Rattle.journal_theory.proofs.ListFacts.{Each, Each-weaker, tally-append}
 use Rattle.world_theory.specs.Step.{is_of_conn}
 use Rattle.world_theory.proofs.Received.{on_conn, count_is}
 use Rattle.run_weave.specs.Lanes.{LaneLog, log, Came, Logs}
+use Rattle.lane_turns.specs.declared.serving.Next.{Next}
+use Rattle.lane_turns.specs.declared.serving.Done.{Done as TurnDone}
 use Rattle.run_weave.specs.Received.{Keeps, ActsLog, IsReceived, serves_by_turns, receives_by_turns}
 use Rattle.run_weave.specs.Workers.{zeros}
 use Rattle.run_weave.proofs.Counted.{any_uncounted}
@@ -41,8 +43,8 @@ by_reply Busy f r k = r tt
 -- ---- what came is of its connection, and of no other
 
 came_on : (old : Intake (EndState Item)) (s : Submission) (reply : Reply) (came : List Arrival) → Came old s reply came → Each (λ (a : Arrival). a.key.conn ≡ old.conn.key) came
-came_on old s (Done n) came c = subst (Each (λ (a : Arrival). a.key.conn ≡ old.conn.key)) (sym c.4) (on_their_conn old.conn.key old.conn.next s.moment _)
-came_on old s (Partial n i x) came c = subst (Each (λ (a : Arrival). a.key.conn ≡ old.conn.key)) (sym c.4) (on_their_conn old.conn.key old.conn.next s.moment _)
+came_on old s (Done n) came c = subst (Each (λ (a : Arrival). a.key.conn ≡ old.conn.key)) (sym c.2) (on_their_conn old.conn.key old.conn.next s.moment _)
+came_on old s (Partial n i x) came c = subst (Each (λ (a : Arrival). a.key.conn ≡ old.conn.key)) (sym c.2) (on_their_conn old.conn.key old.conn.next s.moment _)
 came_on old s (BadData x) came c = subst (Each (λ (a : Arrival). a.key.conn ≡ old.conn.key)) (sym c) tt
 came_on old s Busy came c = subst (Each (λ (a : Arrival). a.key.conn ≡ old.conn.key)) (sym c) tt
 
@@ -123,7 +125,7 @@ module _ (g : Allowed) (capacity number : ℕ) (first : List (EndState Item)) wh
   others_same k j ne [] old new e p = ap (λ (l : LaneLog). on_conn (key_of number j) l.received) p
   others_same k j ne (s ∷ ss) old new e p =
       let one = p.1 in
-      let same_key : p.0.at.conn.key ≡ old.at.conn.key = by_reply s.reply one.0.received (λ r. ap (λ (c : Conn). c.key) (one.0.refused r).1) (λ f. ap (λ (c : Conn). c.key) f.5) in
+      let same_key : p.0.at.conn.key ≡ old.at.conn.key = by_reply s.reply one.0.received (λ r. ap (λ (c : Conn). c.key) (one.0.refused r).1) (λ f. ap (λ (c : Conn). c.key) f.3) in
       let of_it = Each-weaker (λ (a : Arrival). a.key.conn ≡ old.at.conn.key) (λ (a : Arrival). a.key.conn ≡ key_of number k) one.1 (λ a is. is ∙ e) (came_on old.at s s.reply one.1 one.2) in
       others_same k j ne ss p.0 new (same_key ∙ e) p.2
       ∙ (ap (λ (z : List Arrival). on_conn (key_of number j) z) one.3 ∙ omega (arith, tally-append (is_of_conn (key_of number j)) old.received one.1, of_other number k j ne one.1 of_it))
@@ -212,12 +214,12 @@ module _ (g : Allowed) (capacity number : ℕ) (first : List (EndState Item)) wh
       later : (j : ℕ) → mid.lane.connected ≤ j → IsToCome g j acts
       later j past = (to_come_had g j k before after t acts (to_come j (omega (arith, past, same_connected)))).1
 
-module _ {V : Type 0} (allowed_of : V → Allowed) where
-  pub by_turns : IsReceived (serves_by_turns allowed_of) (receives_by_turns allowed_of)
-  by_turns keeps_doubles capacity number ports old new last is_full h =
+module _ {V D : Type 0} (allowed_of : V → Allowed) (driver_of : V → D) (asks : D → Next → ℕ → List ℕ → D → Type 0) (hears : D → TurnDone → List ℕ → D → Type 0) where
+  pub by_turns : IsReceived (serves_by_turns allowed_of driver_of asks hears) (receives_by_turns allowed_of driver_of asks hears)
+  by_turns keeps_doubles capacity number ports old new last is_full (h, driven) =
       let all = goes (allowed_of old) capacity number ports h.acts false (lane_at (record { number = number; connected = 0; ports = ports; keeps_doubles = keeps_doubles }) zeros) last (λ k. 0) [] (record { keeps = keeps_first capacity number ports; lane_is = refl; below = tt; next_is = λ k. refl }) numbers to_come h.fits.did in (
         all.0,
-        record { acts = h.acts; open_at = h.open_at; fits = h.fits; logged = all.1; full = h.full; all_over = h.all_over },
+        (record { acts = h.acts; open_at = h.open_at; fits = h.fits; logged = all.1; full = h.full; all_over = h.all_over }, driven),
         subst (λ (full : Bool). Keeps capacity number ports full all.0 last.lane.ports last.counted) h.full all.2,
       )
     where

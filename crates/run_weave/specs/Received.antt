@@ -13,6 +13,9 @@ use Rattle.http_lane.specs.declared.turns.Exchange.{Exchange}
 use Rattle.http_lane.specs.Connection.{SubmitsAll, submissions}
 use Rattle.http_lane.specs.Intake.{Submits, intake, connected}
 use Rattle.lane_turns.specs.Acts.{Act, took, had, conn_of, Fits, acts_uncounted}
+use Rattle.lane_turns.specs.Driven.{IsDriven}
+use Rattle.lane_turns.specs.declared.serving.Next.{Next}
+use Rattle.lane_turns.specs.declared.serving.Done.{Done}
 use Rattle.lane_worker.specs.Serving.{Connection, LaneAt, lane_at, HasServed, ServesMany}
 use Rattle.world_theory.specs.Step.{has_ids}
 use Rattle.span_weave.specs.Threads.{AreNumbered}
@@ -51,12 +54,15 @@ pub record ReceivesMany (allowed : Allowed) (capacity : ℕ) (at : LaneAt) (befo
   pub full : acts_uncounted acts ≡ is_full
   pub all_over : is_full ≡ false → (key : ℕ) → open_at key ≡ None
 
-module _ {V : Type 0} (allowed_of : V → Allowed) where
+module _ {V D : Type 0} (allowed_of : V → Allowed) (driver_of : V → D) (asks : D → Next → ℕ → List ℕ → D → Type 0) (hears : D → Done → List ℕ → D → Type 0) where
   abbrev pub serves_by_turns : (capacity : ℕ) → (old : V) → (before : LaneAt) → (new : V) → (after : LaneAt) → (is_full : Bool) → Type 0
-  serves_by_turns capacity old before new after is_full = ServesMany (allowed_of old) capacity before after is_full
+  serves_by_turns capacity old before new after is_full = ServesMany asks hears (allowed_of old) capacity (driver_of old) before (driver_of new) after is_full
 
+  -- this was received of the connections, and round by round the lane did what its driver said
   abbrev pub receives_by_turns : (capacity : ℕ) → (old : V) → (at : LaneAt) → (before : List Arrival) → (new : V) → (last : LaneAt) → (after : List Arrival) → (is_full : Bool) → Type 0
-  receives_by_turns capacity old at before new last after is_full = ReceivesMany (allowed_of old) capacity at before last after is_full
+  receives_by_turns capacity old at before new last after is_full =
+      ReceivesMany (allowed_of old) capacity at before last after is_full
+      × IsDriven asks hears (Submits (TakesItem capacity) (IsRefused capacity)) (allowed_of old) (driver_of old) at (driver_of new) last is_full
 
 -- ---- what each way of serving keeps
 

@@ -23,7 +23,8 @@ pub fn workers_ran<F: Acceptor, T: Ticks>()
         (receives_one_by_one (λ (s : OneByOne F). s.acceptor) F.gives (λ x. connection (F.Reader.given x.0) (F.Writer.contents x.1))) T.gives }
 {}
 
-/// The same where each lane serves many connections at once, turn by turn.
+/// The same where each lane serves many connections at once, turn by turn as its driver says.
 pub fn workers_ran_by_turns<D: Driver, T: Ticks>()
-    ensures { WorkersRan (serves_by_turns (λ (s : ByTurns D). s.allowed)) (receives_by_turns (λ (s : ByTurns D). s.allowed)) T.gives }
+    ensures { WorkersRan (serves_by_turns (λ (s : ByTurns D). s.allowed) (λ (s : ByTurns D). s.driver) D.asks D.hears)
+        (receives_by_turns (λ (s : ByTurns D). s.allowed) (λ (s : ByTurns D). s.driver) D.asks D.hears) T.gives }
 {}

@@ -3,9 +3,8 @@
 use Rattle.std.proofs.Common.{◌≡◌, ℕ, ◌<◌, Bool, true, false, ◌||◌, List, [], ◌∷◌, ◌++◌, length, map, filter, Some, None, refl, ap, sym, subst, ◌∙◌, arith, inl, inr}
 use Rattle.std.specs.List.{AllByRecursion}
 use Rattle.std.proofs.lemmas.List.{append-nil, length-append}
-use Rattle.serde_json.specs.Data.{Data}
-use Rattle.otlp_reading.specs.Decoding.{IsJson}
-use Rattle.otlp_reading.specs.Reading.{request_of}
+use Rattle.otlp_encoding.specs.declared.encoding.Encoding.TheVariants.{Json}
+use Rattle.otlp_request.proofs.Bodies.{one_request, not_both, one_cause}
 use Rattle.otlp_types.specs.declared.arrival.Arrival.{Arrival}
 use Rattle.otlp_types.specs.declared.arrival.Item.{Item}
 use Rattle.otlp_types.specs.declared.request.Request.{Request}
@@ -14,7 +13,6 @@ use Rattle.span_ids.specs.declared.outcome.Reason.TheVariants.{InvalidId, QueueF
 use Rattle.lane_queue.specs.Queues.{QueueState, TakesLast, IsFull}
 use Rattle.lane_seq.specs.declared.reply.Reply.{Reply}
 use Rattle.lane_seq.specs.declared.reply.Reply.TheVariants.{Done, Partial, BadData, Busy}
-use Rattle.lane_seq.specs.declared.reply.BadData.TheVariants.{Json, Shape}
 use Rattle.lane_seq.specs.Replies.{IsReplyTo}
 use Rattle.lane_seq.specs.Numbers.{is_invalid}
 use Rattle.lane_seq.specs.Pushes.{Receives as IsPushed}
@@ -205,25 +203,12 @@ pushes_same spans old reply other new queues h g =
 
 -- ---- readings
 
--- a body writes one value
-value_same : (body : List ℕ) (d e : Data) → IsJson body d → IsJson body e → d ≡ e
-value_same body d e h g = let both : Some d ≡ Some e = sym h.1 ∙ g.1 in cc
-
 -- a body is taken for one thing, but for a refusal as busy
 pub reading_same : (keeps : Bool) (body : List ℕ) (p q : BodyReading) → IsTakenFor keeps body p → IsTakenFor keeps body q → (p ≡ refuses Busy → ⊥) → (q ≡ refuses Busy → ⊥) → p ≡ q
-reading_same keeps body (reads a) (reads b) h g m n =
-    let both : Some a ≡ Some b = sym h.2 ∙ (ap (request_of keeps) (value_same body h.0 g.0 h.1 g.1) ∙ g.2) in
-    let same : a ≡ b = cc in ap (λ (z : Request). reads z) same
-reading_same keeps body (reads a) (refuses (BadData Json)) h g m n = absurd (g h.0 h.1)
-reading_same keeps body (reads a) (refuses (BadData Shape)) h g m n =
-    let both : Some a ≡ None = sym h.2 ∙ (ap (request_of keeps) (value_same body h.0 g.0 h.1 g.1) ∙ g.2) in absurd (cc both)
-reading_same keeps body (refuses (BadData Json)) (reads b) h g m n = absurd (h g.0 g.1)
-reading_same keeps body (refuses (BadData Shape)) (reads b) h g m n =
-    let both : Some b ≡ None = sym g.2 ∙ (ap (request_of keeps) (value_same body g.0 h.0 g.1 h.1) ∙ h.2) in absurd (cc both)
-reading_same keeps body (refuses (BadData Json)) (refuses (BadData Json)) h g m n = refl
-reading_same keeps body (refuses (BadData Shape)) (refuses (BadData Shape)) h g m n = refl
-reading_same keeps body (refuses (BadData Json)) (refuses (BadData Shape)) h g m n = absurd (h g.0 g.1)
-reading_same keeps body (refuses (BadData Shape)) (refuses (BadData Json)) h g m n = absurd (g h.0 h.1)
+reading_same keeps body (reads a) (reads b) h g m n = ap (λ (z : Request). reads z) (one_request Json keeps body a b h g)
+reading_same keeps body (reads a) (refuses (BadData cause)) h g m n = absurd (not_both Json keeps body a cause h g)
+reading_same keeps body (refuses (BadData cause)) (reads b) h g m n = absurd (not_both Json keeps body b cause g h)
+reading_same keeps body (refuses (BadData cause)) (refuses (BadData other)) h g m n = ap (λ z. refuses (BadData z)) (one_cause Json keeps body cause other h g)
 reading_same keeps body (refuses Busy) q h g m n = absurd (m refl)
 reading_same keeps body p (refuses Busy) h g m n = absurd (n refl)
 reading_same keeps body (refuses (Done k)) q h g m n = absurd h

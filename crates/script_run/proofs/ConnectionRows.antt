@@ -4,7 +4,7 @@ use Rattle.std.proofs.Common.{◌≡◌, ℕ, ◌+◌, true, List, [], ◌∷◌
 use Rattle.lane_seq.specs.declared.preparing.Conn.{Conn}
 use Rattle.lane_seq.specs.Numbers.{arrivals_from}
 use Rattle.lane_seq.specs.declared.reply.Reply.TheVariants.{BadData}
-use Rattle.lane_seq.specs.declared.reply.BadData.TheVariants.{Shape}
+use Rattle.otlp_request.specs.declared.bad_data.BadData.TheVariants.{Shape}
 use Rattle.otlp_types.specs.declared.arrival.Arrival.{Arrival}
 use Rattle.otlp_types.specs.declared.arrival.Item.TheVariants.{End, Tick}
 use Rattle.script_run.specs.Connections.{Contacts, lane_of, connection_of, with_connection, with_received}

@@ -6,7 +6,7 @@ use Rattle.std.specs.Prelude.{decimal}
 use Rattle.std.proofs.lemmas.Fmt.{length-decimal-le}
 use Rattle.lane_seq.specs.declared.reply.Reply.{Reply}
 use Rattle.lane_seq.specs.declared.reply.Reply.TheVariants.{Done, Partial, BadData, Busy}
-use Rattle.lane_seq.specs.Replies.{status_of}
+use Rattle.otlp_reply.specs.Bodies.{status_of}
 
 pub status-short : (reply : Reply) → length (decimal (status_of reply)) ≤ 3
 status-short (Done spans) = length-decimal-le 3 200 (lit< tt) (lit< tt) (lit< tt)

@@ -8,6 +8,7 @@ use crate::output::Output;
 use drop_ledger::Count;
 use lane_queue::ListPort;
 use lane_seq::{Lane, Reply};
+use otlp_encoding::Encoding;
 use otlp_types::Item;
 use span_ids::{Moment, Reason};
 use span_sink::Sink;
@@ -34,7 +35,7 @@ pub(crate) fn submit(
     };
     let mut after = conn;
     let mut lane = Lane::new(conn.key.lane, queues).keeping_doubles(keeps_doubles);
-    let reply = lane.submit(alloc, &mut after, body, moment);
+    let reply = lane.submit(alloc, &mut after, Encoding::Json, body, moment);
     if is_received(&reply) {
         connections.put(number, after);
     }

@@ -3,7 +3,8 @@ ghost use Rattle.std.specs.Prelude.{◌≡◌, ◌+◌, ◌≤◌, ◌++◌, len
 ghost use Rattle.script_run.specs.Requests.{reply_line};
 
 use itoa::Buffer;
-use lane_seq::{Reply, put};
+use lane_seq::Reply;
+use otlp_reply::{put, put_json_body, status};
 
 /// The length of the longest reply line, in bytes, its line feed included.
 pub const MAX_REPLY_LINE: usize = 154;
@@ -15,12 +16,12 @@ pub fn write_reply_line(text: &mut Vec<u8>, reply: &Reply)
     ensures room { MAX_REPLY_LINE ≤ vec_capacity text.new }
 {
     let mut digits = Buffer::new();
-    let status = digits.format(reply.status()).as_bytes();
+    let code = digits.format(status(reply)).as_bytes();
     text.clear();
     put(text, b"reply ");
-    put(text, status);
+    put(text, code);
     put(text, b" ");
-    if reply.put_body(text).is_err() {
+    if put_json_body(text, reply).is_err() {
         unreachable!();
     }
     put(text, b"\n");

@@ -13,6 +13,7 @@ use Rattle.tsc_config.specs.declared.config.Config.{Config}
 use Rattle.tsc_config.specs.declared.log_form.LogForm.TheVariants as log_is
 use Rattle.tsc_config.specs.declared.output_fault.OutputFault.TheVariants as output_is
 use Rattle.tsc_config.specs.declared.exports.Export.{Export}
+use Rattle.tsc_config.specs.declared.exports.ExportEncoding.TheVariants as encoding_is
 
 -- the numbers of a configuration: those of the table, and of `decision_cache`
 abbrev numbers_of : Config → List ℕ
@@ -82,6 +83,12 @@ one_for_all = refl
 takes_gzip : (config_of no_members).accept_gzip ∷ (config_of (member (codes "accept_gzip") (boolean true) no_members)).accept_gzip
     ∷ (config_of (member (codes "accept_gzip") (boolean false) no_members)).accept_gzip ∷ [] ≡ false ∷ true ∷ false ∷ []
 takes_gzip = refl
+
+-- and protobuf, each by its own key
+takes_protobuf : map (λ members. (config_of members).accept_gzip ∷ (config_of members).accept_protobuf ∷ [])
+    (no_members ∷ member (codes "accept_protobuf") (boolean true) no_members ∷ member (codes "accept_protobuf") (boolean false) no_members ∷ member (codes "accept_gzip") (boolean true) no_members ∷ [])
+    ≡ (false ∷ false ∷ []) ∷ (false ∷ true ∷ []) ∷ (false ∷ false ∷ []) ∷ (true ∷ false ∷ []) ∷ []
+takes_protobuf = refl
 
 -- what a key does that takes one of two texts, and the one of a truth value: by default, by each of its values
 abbrev choices_of : Config → List Bool
@@ -157,16 +164,16 @@ nowhere_by_default = refl
 sent_by_default : Export
 sent_by_default = (config_of (member (codes "export") (table (member (codes "endpoint") (string (codes "http://h:1/p")) no_members)) no_members)).export
 
-waits_by_default : (sent_by_default.timeout ≡ 10000) × (sent_by_default.retry_initial ≡ 500) × (sent_by_default.retry_max ≡ 30000) × (sent_by_default.retry_for ≡ 300000) × (sent_by_default.close_wait ≡ 10000) × (sent_by_default.queue_batches ≡ 256) × (sent_by_default.lines ≡ false) × (sent_by_default.headers ≡ [])
+waits_by_default : (sent_by_default.timeout ≡ 10000) × (sent_by_default.retry_initial ≡ 500) × (sent_by_default.retry_max ≡ 30000) × (sent_by_default.retry_for ≡ 300000) × (sent_by_default.close_wait ≡ 10000) × (sent_by_default.queue_batches ≡ 256) × (sent_by_default.lines ≡ false) × (sent_by_default.encoding ≡ encoding_is.Json) × (sent_by_default.headers ≡ [])
 unfolding sent_by_default
-waits_by_default = (refl, refl, refl, refl, refl, refl, refl, refl)
+waits_by_default = (refl, refl, refl, refl, refl, refl, refl, refl, refl)
 
 numbers_of_export : Members
 numbers_of_export =
     member (codes "export") (table (member (codes "endpoint") (string (codes "http://h:1/p"))
     (member (codes "timeout_ms") (integer (pos 2)) (member (codes "retry_initial_ms") (integer (pos 3)) (member (codes "retry_max_ms") (integer (pos 5))
-    (member (codes "retry_for_ms") (integer (pos 7)) (member (codes "close_wait_ms") (integer (pos 11)) (member (codes "queue_batches") (integer (pos 13)) (member (codes "lines") (boolean true)
-    (member (codes "headers") (table (member (codes "Authorization") (string (codes "Bearer x")) (member (codes "X-Tenant") (string (codes "t1")) no_members))) no_members)))))))))) no_members
+    (member (codes "retry_for_ms") (integer (pos 7)) (member (codes "close_wait_ms") (integer (pos 11)) (member (codes "queue_batches") (integer (pos 13)) (member (codes "lines") (boolean true) (member (codes "encoding") (string (codes "proto"))
+    (member (codes "headers") (table (member (codes "Authorization") (string (codes "Bearer x")) (member (codes "X-Tenant") (string (codes "t1")) no_members))) no_members))))))))))) no_members
 
 sent_so : (config_of numbers_of_export).export ≡ record {
   endpoint = codes "http://h:1/p";
@@ -177,7 +184,13 @@ sent_so : (config_of numbers_of_export).export ≡ record {
   close_wait = 11;
   queue_batches = 13;
   lines = true;
+  encoding = encoding_is.Protobuf;
   headers = record { name = codes "Authorization"; value = codes "Bearer x" } ∷ record { name = codes "X-Tenant"; value = codes "t1" } ∷ [];
 }
 unfolding numbers_of_export
 sent_so = refl
+
+-- how batches are sent: by each of the two texts
+sent_as : map (λ (text : List ℕ). (config_of (member (codes "export") (table (one_text (codes "encoding") text)) no_members)).export.encoding) (codes "json" ∷ codes "proto" ∷ [])
+    ≡ encoding_is.Json ∷ encoding_is.Protobuf ∷ []
+sent_as = refl

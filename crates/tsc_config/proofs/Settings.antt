@@ -21,12 +21,12 @@ use Rattle.tsc_config.specs.Reading.{expressions_among, some_is_none, reading, r
 use Rattle.config_faults.specs.Exports.{is_endpoint}
 use Rattle.tsc_config.specs.HeaderFields.{value_of, fields_in, headers_of, AreFields}
 use Rattle.config_faults.specs.Headers.{may_be_sent}
-use Rattle.tsc_config.specs.Settings.{IsNumberAtEither, IsTextAt, IsTruthAt, IsChoiceAt, IsLogAt, IsOutputFaultAt, AreHeadersAt, HasExport, IsExportAt, HasSettings, ReadsSettings}
+use Rattle.tsc_config.specs.Settings.{IsNumberAtEither, IsTextAt, IsTruthAt, IsChoiceAt, IsLogAt, IsOutputFaultAt, AreHeadersAt, IsEncodingAt, HasExport, IsExportAt, HasSettings, ReadsSettings}
 use Rattle.tsc_config.specs.declared.log_form.LogForm.{LogForm}
 use Rattle.tsc_config.specs.declared.log_form.LogForm.TheVariants as log_is
 use Rattle.tsc_config.specs.declared.output_fault.OutputFault.{OutputFault}
 use Rattle.tsc_config.specs.declared.output_fault.OutputFault.TheVariants as output_is
-use Rattle.tsc_config.specs.Values.{config_of, bounded_of, number_by, natural_of, first_found, cache_size, address_of, truth_of, is_other, log_form_of, output_fault_of, text_of, number_or, export_in, export_of}
+use Rattle.tsc_config.specs.Values.{config_of, bounded_of, number_by, natural_of, first_found, cache_size, address_of, truth_of, is_other, log_form_of, output_fault_of, text_of, number_or, encoding_by, export_in, export_of}
 use Rattle.tsc_config.specs.declared.config.Config.{Config}
 use Rattle.config_faults.specs.declared.fault.ConfigFault.{ConfigFault}
 use Rattle.config_faults.specs.declared.fault.ConfigFault.TheVariants.{OutOfRange, TooFewTraces, UnknownKey, NotAnExpression}
@@ -216,6 +216,12 @@ header_fields given None e f = inl (e, refl)
 header_fields given (Some (table fields)) e f = inr (fields, e, are_fields fields f)
 header_fields given (Some _) e f = cc
 
+-- how batches are sent
+encoded : (given : Members) (other : Bool) → IsChoiceAt given (codes "encoding") (codes "json") (codes "proto") other → IsEncodingAt given (encoding_by other)
+encoded given other (inl e) = inl (e.0, ap encoding_by e.1)
+encoded given other (inr (inl e)) = inr (inl (e.0, ap encoding_by e.1))
+encoded given other (inr (inr e)) = inr (inr (e.0, ap encoding_by e.1))
+
 -- the table of `export`
 has_export : (given : Members) → each_setting_fault export_settings given ≡ None → HasExport given (export_in given)
 has_export given e =
@@ -229,6 +235,7 @@ has_export given e =
       close_wait = number_in export_settings given number_is.CloseWait refl e;
       queue_batches = number_in export_settings given number_is.QueueBatches refl e;
       lines = truth (codes "lines") given (get_member (codes "lines") given) refl (free export_settings given (codes "lines") (switch (codes "lines")) refl e);
+      encoding = encoded given _ (choice (choice_row choice_is.Encoding) given (get_member (codes "encoding") given) refl (free export_settings given (codes "encoding") (choice_setting choice_is.Encoding) refl e));
       headers = header_fields given (get_member (codes "headers") given) refl (free export_settings given (codes "headers") _ refl e);
     }
 
@@ -282,6 +289,7 @@ whole members e =
       tick = number_in top_settings members number_is.Tick refl f;
       listen = text (codes "listen") (codes "127.0.0.1:4318") members (get_member (codes "listen") members) refl (free top_settings members (codes "listen") _ refl f);
       accept_gzip = switched members (codes "accept_gzip") refl f;
+      accept_protobuf = switched members (codes "accept_protobuf") refl f;
       waits_for_room = chosen members choice_is.QueueFull refl f;
       output = text (codes "output") [] members (get_member (codes "output") members) refl (free top_settings members (codes "output") _ refl f);
       output_max_mib = number_in top_settings members number_is.OutputMax refl f;

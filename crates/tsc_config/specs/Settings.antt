@@ -11,6 +11,8 @@ use Rattle.tsc_config.specs.declared.log_form.LogForm.TheVariants as log_is
 use Rattle.tsc_config.specs.declared.output_fault.OutputFault.{OutputFault}
 use Rattle.tsc_config.specs.declared.output_fault.OutputFault.TheVariants as output_is
 use Rattle.tsc_config.specs.declared.exports.Export.{Export}
+use Rattle.tsc_config.specs.declared.exports.ExportEncoding.{ExportEncoding}
+use Rattle.tsc_config.specs.declared.exports.ExportEncoding.TheVariants as encoding_is
 use Rattle.tsc_config.specs.declared.headers.HeaderField.{HeaderField}
 
 -- the number of a key: its default, where it doesn't stand there; else the whole number there, which is within these
@@ -71,8 +73,15 @@ AreHeadersAt given key headers =
     ((get_member key given ≡ None) × (headers ≡ []))
     ⊎ ((fields : Members) × (get_member key given ≡ Some (table fields)) × AreFields fields headers)
 
+-- how batches are sent: as JSON, where its key doesn't stand there; else what the text there names
+abbrev pub IsEncodingAt : Members → ExportEncoding → Type 0
+IsEncodingAt given encoding =
+    ((get_member (codes "encoding") given ≡ None) × (encoding ≡ encoding_is.Json))
+    ⊎ (((get_member (codes "encoding") given ≡ Some (string (codes "json"))) × (encoding ≡ encoding_is.Json))
+    ⊎ ((get_member (codes "encoding") given ≡ Some (string (codes "proto"))) × (encoding ≡ encoding_is.Protobuf)))
+
 -- the table of `export`: an address of this form, each number its default or a whole number within its bounds, whether
--- lines are printed too, and fields that may be sent
+-- lines are printed too, how batches are sent, and fields that may be sent
 pub record HasExport (given : Members) (export : Export) : Type 0 where
   pub endpoint : get_member (codes "endpoint") given ≡ Some (string export.endpoint)
   pub form : is_endpoint export.endpoint ≡ true
@@ -83,6 +92,7 @@ pub record HasExport (given : Members) (export : Export) : Type 0 where
   pub close_wait : IsNumberAt given (codes "close_wait_ms") 10000 0 3600000 export.close_wait
   pub queue_batches : IsNumberAt given (codes "queue_batches") 256 1 65536 export.queue_batches
   pub lines : IsTruthAt given (codes "lines") export.lines
+  pub encoding : IsEncodingAt given export.encoding
   pub headers : AreHeadersAt given (codes "headers") export.headers
 
 -- nothing is sent where there is no such table
@@ -110,6 +120,7 @@ pub record HasSettings (members : Members) (config : Config) : Type 0 where
   pub tick : IsNumberAt members (codes "tick_ms") 1000 1 60000 config.tick
   pub listen : IsTextAt members (codes "listen") (codes "127.0.0.1:4318") config.listen
   pub accept_gzip : IsTruthAt members (codes "accept_gzip") config.accept_gzip
+  pub accept_protobuf : IsTruthAt members (codes "accept_protobuf") config.accept_protobuf
   pub waits_for_room : IsChoiceAt members (codes "queue_full") (codes "partial") (codes "retry") config.waits_for_room
   pub output : IsTextAt members (codes "output") [] config.output
   pub output_max_mib : IsNumberAt members (codes "output_max_mib") 0 0 1048576 config.output_max_mib

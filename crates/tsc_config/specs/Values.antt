@@ -30,6 +30,8 @@ use Rattle.tsc_config.specs.declared.log_form.LogForm.TheVariants as log_is
 use Rattle.tsc_config.specs.declared.output_fault.OutputFault.{OutputFault}
 use Rattle.tsc_config.specs.declared.output_fault.OutputFault.TheVariants as output_is
 use Rattle.tsc_config.specs.declared.exports.Export.{Export}
+use Rattle.tsc_config.specs.declared.exports.ExportEncoding.{ExportEncoding}
+use Rattle.tsc_config.specs.declared.exports.ExportEncoding.TheVariants as encoding_is
 
 -- the number of a value, within the bounds of this row; any other value counts as absent
 abbrev pub bounded_value : NumberRow → Data → ℕ
@@ -373,6 +375,15 @@ InRange config = record {
   ticks : 0 < config.tick;
 }
 
+-- how batches are sent, by whether it is otherwise than by default
+abbrev pub encoding_by : (is_other : Bool) → ExportEncoding
+encoding_by false = encoding_is.Json
+encoding_by true = encoding_is.Protobuf
+
+-- the same by the table of `export`
+abbrev pub encoding_of : Members → ExportEncoding
+encoding_of members = encoding_by (is_other (choice_row choice_is.Encoding) (get_member (choice_row choice_is.Encoding).name members))
+
 -- what the table of `export` gives
 abbrev pub export_in : Members → Export
 export_in members = record {
@@ -384,6 +395,7 @@ export_in members = record {
   close_wait = number_by (number_row number_is.CloseWait) members;
   queue_batches = number_by (number_row number_is.QueueBatches) members;
   lines = truth_of (get_member (codes "lines") members);
+  encoding = encoding_of members;
   headers = headers_of (get_member (codes "headers") members);
 }
 
@@ -423,6 +435,7 @@ config_of members = record {
   output_keep = number_by (number_row number_is.OutputKeep) members;
   log = log_form_of (get_member (codes "log") members);
   accept_gzip = truth_of (get_member (codes "accept_gzip") members);
+  accept_protobuf = truth_of (get_member (codes "accept_protobuf") members);
   waits_for_room = is_other (choice_row choice_is.QueueFull) (get_member (choice_row choice_is.QueueFull).name members);
   output_fault = output_fault_of (get_member (codes "output_fault") members);
   keeps_doubles = is_other (choice_row choice_is.DoubleValues) (get_member (choice_row choice_is.DoubleValues).name members);

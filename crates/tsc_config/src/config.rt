@@ -90,6 +90,9 @@ pub struct Config {
     /// Whether bodies that are packed by gzip are taken (RFC 9110, section 8.4.1.3; this project's option
     /// `accept_gzip`).
     pub accept_gzip: bool,
+    /// Whether bodies in protobuf are taken (OTLP/HTTP, "Binary Protobuf Encoding"; this project's option
+    /// `accept_protobuf`).
+    pub accept_protobuf: bool,
     /// Whether a request for whose spans a queue lacks room is to be sent again, in place of being answered how many of
     /// them were discarded (this project's option `queue_full`, `retry`).
     pub waits_for_room: bool,
@@ -142,8 +145,8 @@ impl Config {
 /// `max_request_mib`, from 1 to 64, else 4; `log`, `text`, `json` or `off`, else `text`;
 /// `maximum_trace_size_bytes`, from 0 to 1073741824, else 0; `tick_ms`, from 1 to 60000, else 1000; `listen`, a text,
 /// else `127.0.0.1:4318`; `admin` and `metrics`, texts, else nothing; `output`, a text, else nothing; `output_max_mib`,
-/// from 0 to 1048576, else 0; `output_keep`, from 1 to 1000, else 7; `accept_gzip` and `close_at_end_of_input`, true or
-/// false, else false; `queue_full`, `partial` or `retry`, else `partial`; `output_fault`, `discard`, `stop` or `retry`,
+/// from 0 to 1048576, else 0; `output_keep`, from 1 to 1000, else 7; `accept_gzip`, `accept_protobuf` and
+/// `close_at_end_of_input`, true or false, else false; `queue_full`, `partial` or `retry`, else `partial`; `output_fault`, `discard`, `stop` or `retry`,
 /// else `discard`; and `double_values`, `discard` or `keep`, else `discard`; and `export`, a table with a required
 /// `endpoint` ([`Export`] has its keys), else nothing is sent. Of a `string_attribute` policy `values` are regular
 /// expressions where `enabled_regex_matching` is true (tailsamplingprocessor README); its `cache_max_size`, a whole
@@ -224,6 +227,7 @@ fn given_by(alloc: Global, table: &Table, policies: Policies) -> Result<Config, 
         output_keep: number_at(table, NumberKey::OutputKeep),
         log: log_form_at(table),
         accept_gzip: truth_at(table, "accept_gzip"),
+        accept_protobuf: truth_at(table, "accept_protobuf"),
         waits_for_room: is_other_at(table, ChoiceKey::QueueFull),
         output_fault: output_fault_at(table),
         keeps_doubles: is_other_at(table, ChoiceKey::DoubleValues),

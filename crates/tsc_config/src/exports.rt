@@ -2,11 +2,12 @@
 ghost use Rattle.std.specs.Prelude.{◌≡◌, codes, IfOk};
 ghost use Rattle.toml.specs.Data.{get_member, no_members};
 ghost use Rattle.toml.specs.View.{view, table_view};
-ghost use Rattle.tsc_config.specs.Values.{export_in, export_of, export_value};
+ghost use Rattle.tsc_config.specs.Values.{encoding_of, export_in, export_of, export_value};
 
 use crate::headers::{HeaderField, headers_at};
 use crate::settings_values::{number_at, text_at, truth_at};
-use config_faults::{NumberKey, member};
+use crate::values::is_other_at;
+use config_faults::{ChoiceKey, NumberKey, member};
 use otlp_types::{List, Text};
 use std::alloc::{AllocError, Global};
 use toml::{Table, Value};
@@ -31,8 +32,19 @@ pub struct Export {
     pub queue_batches: u64,
     /// Whether the lines are printed too.
     pub lines: bool,
+    /// How each batch is sent.
+    pub encoding: ExportEncoding,
     /// The fields that each request has beside its own, in the order of their names.
     pub headers: List<HeaderField>,
+}
+
+/// How a batch of spans is sent (OTLP/HTTP, "OTLP/HTTP Request": JSON or binary protobuf).
+#[derive(Clone, Copy, PartialEq, Eq)]
+pub enum ExportEncoding {
+    /// As JSON, by `encoding = "json"` or by default.
+    Json,
+    /// As protobuf, by `encoding = "proto"`.
+    Protobuf,
 }
 
 /// What stands at `export`.
@@ -67,6 +79,18 @@ fn export_in(alloc: Global, settings: &Table) -> Result<Export, AllocError>
         close_wait: number_at(settings, NumberKey::CloseWait),
         queue_batches: number_at(settings, NumberKey::QueueBatches),
         lines: truth_at(settings, "lines"),
+        encoding: encoding_at(settings),
         headers: headers_at(alloc, settings)?,
     })
+}
+
+/// How these settings have batches sent.
+fn encoding_at(settings: &Table) -> ExportEncoding
+    ensures { result ≡ encoding_of (table_view settings.now) }
+{
+    if is_other_at(settings, ChoiceKey::Encoding) {
+        ExportEncoding::Protobuf
+    } else {
+        ExportEncoding::Json
+    }
 }

@@ -25,7 +25,7 @@ mod settings_values;
 mod values;
 
 pub use config::{Config, read};
-pub use exports::Export;
+pub use exports::{Export, ExportEncoding};
 pub use headers::HeaderField;
 pub use log_form::LogForm;
 pub use output_fault::OutputFault;

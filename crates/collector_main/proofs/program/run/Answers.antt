@@ -4,7 +4,7 @@ use Rattle.collector_main.specs.Configuration.{file_of}
 use Rattle.collector_main.specs.Ending.{AsksFor}
 use Rattle.collector_main.specs.declared.configuration.FileFault.TheVariants.{Unreadable}
 use Rattle.collector_main.specs.declared.configuration.ReadFault.TheVariants.{Other}
-use Rattle.collector_main.specs.declared.program.Command.TheVariants.{Replay, Serve, Validate, Close, Help, Version}
+use Rattle.collector_main.specs.declared.program.Command.TheVariants.{Replay, Serve, Validate, Close, Show, Help, Version}
 use Rattle.collector_main.proofs.Courses.{CameTo-does}
 use Rattle.collector_main.proofs.program.run.Goals as goal
 
@@ -15,25 +15,31 @@ pub returns-in-Replay : goal.returns-in-Replay
 returns-in-Replay g c =
     let arguments = map string_bytes c.args.arguments.now in
     let asked = subst (λ command. AsksFor arguments command) c.in-Replay.is c.in-Some.ensures.some in
-    (file_of (λ v. v.items) c.read_file.result, CameTo-does _ Replay c.replay_by.result.1 asked (c.replay_by.ensures arguments))
+    (file_of (λ v. v.items) c.read_file.result, CameTo-does _ _ Replay c.replay_by.result.1 asked (c.replay_by.ensures arguments))
 
 pub returns-in-Serve : goal.returns-in-Serve
 returns-in-Serve g c =
     let arguments = map string_bytes c.args.arguments.now in
     let asked = subst (λ command. AsksFor arguments command) c.in-Serve.is c.in-Some.ensures.some in
-    (file_of (λ v. v.items) c.read_file-in-Serve.result, CameTo-does _ Serve c.serve_by.result.1 asked (c.serve_by.ensures arguments (g.Script.Source.given c.args.reader.now)))
+    (file_of (λ v. v.items) c.read_file-in-Serve.result, CameTo-does _ _ Serve c.serve_by.result.1 asked (c.serve_by.ensures arguments (g.Script.Source.given c.args.reader.now)))
 
 pub returns-in-Validate : goal.returns-in-Validate
 returns-in-Validate g c =
     let arguments = map string_bytes c.args.arguments.now in
     let asked = subst (λ command. AsksFor arguments command) c.in-Validate.is c.in-Some.ensures.some in
-    (file_of (λ v. v.items) c.read_file-in-Validate.result, CameTo-does _ Validate c.told_of.result asked (c.told_of.ensures, (refl, refl)))
+    (file_of (λ v. v.items) c.read_file-in-Validate.result, CameTo-does _ _ Validate c.told_of.result asked (c.told_of.ensures, (refl, refl)))
 
 pub returns-in-Close : goal.returns-in-Close
 returns-in-Close g c =
     let arguments = map string_bytes c.args.arguments.now in
     let asked = subst (λ command. AsksFor arguments command) c.in-Close.is c.in-Some.ensures.some in
-    (file_of (λ v. v.items) c.read_file-in-Close.result, CameTo-does _ Close c.close_by.result asked (c.close_by.ensures, (refl, refl)))
+    (file_of (λ v. v.items) c.read_file-in-Close.result, CameTo-does _ _ Close c.close_by.result asked (c.close_by.ensures, (refl, refl)))
+
+pub returns-in-Show : goal.returns-in-Show
+returns-in-Show g c =
+    let arguments = map string_bytes c.args.arguments.now in
+    let asked = subst (λ command. AsksFor arguments command) c.in-Show.is c.in-Some.ensures.some in
+    (Err (Unreadable Other), CameTo-does _ _ Show c.show_by.result asked (c.show_by.ensures, (refl, refl)))
 
 pub returns-in-Help : goal.returns-in-Help
 returns-in-Help g c =

@@ -13,3 +13,6 @@ returns-in_default-try_clone g c = sends-starved c.args.config c.args.config.exp
 
 pub returns-in_default-request_fields : goal.returns-in_default-request_fields
 returns-in_default-request_fields g c = sends-starved c.args.config c.args.config.export.lines _ _ refl refl
+
+pub returns-in_default-request_fields-2 : goal.returns-in_default-request_fields-2
+returns-in_default-request_fields-2 g c = sends-starved c.args.config c.args.config.export.lines _ _ refl refl

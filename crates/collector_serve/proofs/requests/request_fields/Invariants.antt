@@ -5,4 +5,4 @@ use Rattle.collector_serve.proofs.requests.request_fields.Given as goal
 
 -- the fields so far, and those of the headers that are left
 abbrev pub invariant-loop-header : goal.invariant-loop-header
-invariant-loop-header l = pairs l.fields.items ++ map parts_of (drop l.header-index l.headers) ≡ request_fields l.authority l.headers
+invariant-loop-header l = pairs l.fields.items ++ map parts_of (drop l.header-index l.headers) ≡ request_fields l.authority l.fn.encoding l.headers

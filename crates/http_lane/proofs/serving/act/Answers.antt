@@ -12,6 +12,8 @@ returns-in-Refused-clause-acts g c = λ r stands.
       found.0,
       found.1,
       (λ e. absurd (never_open c.answer.result e)),
+      c.encoding-encoding.result,
+      c.encoding-encoding.ensures.stands r stands,
       record {
         can = can_text c.answer.result cause c.answer.ensures.fate refl;
         closes = refl;
@@ -28,6 +30,8 @@ returns-in-Close-clause-acts g c = λ r stands.
       found.0,
       found.1,
       (λ e. absurd (never_open c.answer-in-Close.result e)),
+      c.encoding-encoding.result,
+      c.encoding-encoding.ensures.stands r stands,
       record {
         can = can_text c.answer-in-Close.result close_asked c.answer-in-Close.ensures.fate refl;
         closes = refl;
@@ -46,10 +50,12 @@ returns-in-Accepted-true-clause-acts g c = λ r stands.
       found.0,
       found.1,
       (λ e. found.2),
+      c.encoding-encoding.result,
+      c.encoding-encoding.ensures.stands r stands,
       record {
         can = can_text c.answer-in-Accepted-true.result cause c.answer-in-Accepted-true.ensures.fate c.in-Accepted-true.awaited-test;
         closes = refl;
-        puts = subst (λ a. Puts (known c.args.writer.now) (known c.answer-in-Accepted-true.new.writer) c.answer-in-Accepted-true.result (text_of (accepts a)))
+        puts = subst (λ a. Puts (known c.args.writer.now) (known c.answer-in-Accepted-true.new.writer) c.answer-in-Accepted-true.result (text_of c.encoding-encoding.result (accepts a)))
             (sym c.in-Accepted-true.awaited-test) c.answer-in-Accepted-true.ensures.puts;
         lane = refl;
       },
@@ -64,10 +70,12 @@ returns-in-Accepted-false-clause-acts g c = λ r stands.
       found.0,
       found.1,
       (λ e. found.2),
+      c.encoding-encoding.result,
+      c.encoding-encoding.ensures.stands r stands,
       record {
         can = refl;
         closes = refl;
-        puts = ([], Appends-none (g.Writer.Write.contents c.args.writer.now), ap (λ a. text_of (accepts a)) (sym c.in-Accepted-false.awaited-test));
+        puts = ([], Appends-none (g.Writer.Write.contents c.args.writer.now), ap (λ a. text_of c.encoding-encoding.result (accepts a)) (sym c.in-Accepted-false.awaited-test));
         lane = refl;
       },
       refl,
@@ -77,4 +85,4 @@ pub returns-in-Whole-clause-acts : goal.returns-in-Whole-clause-acts
 returns-in-Whole-clause-acts g c = λ r stands.
     let found = c.in-Whole.ensures.brings r stands in
     let served = c.respond-closes.ensures (g.Parser.Engine.body_of c.advance.new.self) c.body-body.ensures in
-    (served.0, found.0, found.2 served.0 served.1, (λ e. found.1), served.2, serves_answers c.in-Whole.limit c.in-Whole.is_packed (g.Parser.Engine.body_of c.advance.new.self) c.in-Whole.says_close served.0 served.1)
+    (served.0, found.0, found.2 served.0 served.1, (λ e. found.1), c.encoding-encoding.result, c.encoding-encoding.ensures.stands r stands, served.2, serves_answers c.in-Whole.limit c.in-Whole.is_packed (g.Parser.Engine.body_of c.advance.new.self) c.in-Whole.says_close served.0 served.1)

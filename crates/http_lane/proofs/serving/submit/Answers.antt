@@ -19,7 +19,7 @@ returns-then-not-count g c = λ limit is_packed body is.
         puts = ([], Appends-none (g.Writer.Write.contents c.args.writer.now), refl);
         lane = (
           new,
-          record { received = took.received; lane = took.lane; ports = took.ports; json = took.json; shape = took.shape; refused = took.refused; counts = counts },
+          record { received = took.received; lane = took.lane; ports = took.ports; bad = took.bad; refused = took.refused; counts = counts },
           refl,
         );
       },
@@ -39,7 +39,7 @@ returns g c = λ limit is_packed body is.
         puts = c.answer.ensures.puts;
         lane = (
           intake c.submit-reply.new.self c.submit-reply.new.conn (g.Ledger.Counter.counted c.count.new.counts),
-          record { received = took.received; lane = took.lane; ports = took.ports; json = took.json; shape = took.shape; refused = took.refused; counts = subst (λ t. Counts reply t (g.Ledger.Counter.counted c.args.counts.now) (g.Ledger.Counter.counted c.count.new.counts)) (sym (counted_text c.answer.result c.answer.ensures.fate)) counts },
+          record { received = took.received; lane = took.lane; ports = took.ports; bad = took.bad; refused = took.refused; counts = subst (λ t. Counts reply t (g.Ledger.Counter.counted c.args.counts.now) (g.Ledger.Counter.counted c.count.new.counts)) (sym (counted_text c.answer.result c.answer.ensures.fate)) counts },
           refl,
         );
       },

@@ -4,5 +4,5 @@ use Rattle.pipeline.proofs.Told.{servers_told}
 use Rattle.pipeline.proofs.running.run_by_turns.Goals as goal
 
 pub returns-clause-ran : goal.returns-clause-ran
-returns-clause-ran g c = servers_told _ _ (by_turns (λ (s : ByTurns g.row.Poller.Denot). s.allowed)) g.TickSource.Ticks.gives c.args.config c.args.drivers.items c.args.ticks c.requires.ranges.some_shard c.requires.ranges.each_keeps
+returns-clause-ran g c = servers_told _ _ (by_turns (λ (s : ByTurns g.row.Poller.Denot). s.allowed) (λ (s : ByTurns g.row.Poller.Denot). s.driver) g.Poller.Driver.asks g.Poller.Driver.hears) g.TickSource.Ticks.gives c.args.config c.args.drivers.items c.args.ticks c.requires.ranges.some_shard c.requires.ranges.each_keeps
     (g.Output.Sink.taken c.args.sink) (g.Output.Sink.failures c.args.sink) (g.Output.Sink.taken c.run_servers.result.0) (g.Output.Sink.failures c.run_servers.result.0) c.run_servers.result.1 c.run_servers.ensures.ran

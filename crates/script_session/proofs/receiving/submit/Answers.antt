@@ -26,5 +26,5 @@ returns-clause-submits c =
       | else-is_received w ↦
           let no = sym w.if-is_received.ensures in
           submits-refused lane.keeps_doubles a.connections.now c.if-is_received.connections a.number a.moment a.body.now before after first last reply (w.connections-is ∙ c.in-Ok.ensures.connected) is_before c.end.ensures.ports
-          (ap (λ (l : LaneState (QueueState Item)). l.ports) (says.refused (refusal reply no)).0) (refused lane.keeps_doubles reply a.body.now no says.json says.shape)
+          (ap (λ (l : LaneState (QueueState Item)). l.ports) (says.refused (refusal reply no)).0) (refused lane.keeps_doubles reply a.body.now no says.bad)
     ])

@@ -10,15 +10,15 @@ use Rattle.http_lane.proofs.turns.Exchange.waited.Goals as goal
 pub returns-then-is_over-2 : goal.returns-then-is_over-2
 returns-then-is_over-2 g c = record {
   turn = λ allowed w at since.
-      let e = one timed_out c.answer.result in
+      let e = one c.encoding.result timed_out c.answer-told.result in
       let end = c.end_with.result in
       let within = sym (c.is_between.ensures allowed w at) ∙ c.if-is_between.false in
-      let puts = c.answer.ensures.puts in
+      let puts = c.answer-told.ensures.puts in
       let over : w.since + REQUEST_LIMIT ≤ c.args.moment = leb-true (w.since + REQUEST_LIMIT) c.args.moment (ap (λ n. nat_le (n + REQUEST_LIMIT) c.args.moment) (sym since) ∙ (sym c.is_over-2.ensures ∙ c.if-is_over-2.true)) in
-      let late : IsLate w.since c.args.moment (e ∷ []) end = inl (over, e, refl, refl, can_text c.answer.result timed_out c.answer.ensures.fate refl, c.end_with.ensures) in (
+      let late : IsLate w.reading w.since c.args.moment (e ∷ []) end = inl (over, e, refl, refl, (can_text c.answer-told.result timed_out c.answer-told.ensures.fate refl, c.encoding.ensures allowed w at), c.end_with.ensures) in (
         false,
         e ∷ [],
-        (refl, refl, subst (λ b. MatchBool b ((e ∷ [] ≡ []) × (end ≡ idle_end w.since c.args.moment false)) (IsLate w.since c.args.moment (e ∷ []) end)) (sym within) late),
+        (refl, refl, subst (λ b. MatchBool b ((e ∷ [] ≡ []) × (end ≡ idle_end w.since c.args.moment false)) (IsLate w.reading w.since c.args.moment (e ∷ []) end)) (sym within) late),
         puts.0,
         puts.1,
         writes_one e puts.0 puts.2,

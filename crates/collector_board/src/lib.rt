@@ -1,0 +1,25 @@
+//! What the threads of a collector that runs tell one another: the board of its counts, the mark to stop and who set it,
+//! for how long a write has been under way; and what writes there beside its work: the output, and what sends batches.
+//!
+//! ```
+//! let board = Board::new(alloc, config.shards, &config.policies)?;
+//! let stop = StopMark::new();
+//! let watch = ExportWatch::new(&stop, &board);
+//! ```
+#![tactic(auto)]
+
+mod board;
+mod export_watch;
+mod line_spans;
+mod output_stall;
+mod stop_mark;
+mod stopping_sink;
+mod write_watch;
+
+pub use board::Board;
+pub use export_watch::ExportWatch;
+pub use line_spans::LineSpans;
+pub use output_stall::OutputStall;
+pub use stop_mark::{Closer, StopMark};
+pub use stopping_sink::StoppingSink;
+pub use write_watch::WriteWatch;

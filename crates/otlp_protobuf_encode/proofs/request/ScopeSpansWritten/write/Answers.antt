@@ -1,0 +1,12 @@
+use Rattle.std.proofs.Common.{◌++◌, map}
+use Rattle.protobuf_writer.specs.Defaults.{text_field, message_field, repeated}
+use Rattle.protobuf_writer.proofs.Adding.{then}
+use Rattle.otlp_protobuf_encode.specs.Writing.{scope_fields, span_fields}
+use Rattle.otlp_protobuf_encode.proofs.RequestsBack.{scope_spans-back}
+use Rattle.otlp_protobuf_encode.proofs.request.ScopeSpansWritten.write.Goals as goal
+
+pub returns-clause-bytes : goal.returns-clause-bytes
+returns-clause-bytes c = then c.args.out.now.items c.list.new.out.items c.write_string.new.out.items (message_field 1 (scope_fields c.args.self.now.scope) ++ repeated 2 (map span_fields c.args.self.now.spans)) (text_field 3 c.args.self.now.schema_url) (then c.args.out.now.items c.write_scope.new.out.items c.list.new.out.items (message_field 1 (scope_fields c.args.self.now.scope)) (repeated 2 (map span_fields c.args.self.now.spans)) c.in_ok-write_scope.ensures.bytes c.in_ok-list.ensures.bytes) c.in_ok-write_string.ensures.bytes
+
+pub returns-clause-back : goal.returns-clause-back
+returns-clause-back c = scope_spans-back c.args.self.now c.in_ok-write_scope.ensures.back c.in_ok-list.ensures.back c.write_string.ensures.text

@@ -1,0 +1,7 @@
+mod Connectives
+mod Digits
+mod Equals
+pub mod Known
+mod Letters
+mod Rows
+mod Wholes

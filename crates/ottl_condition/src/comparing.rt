@@ -1,0 +1,90 @@
+//! Comparisons.
+ghost use Rattle.std.specs.Prelude.{◌≡◌};
+ghost use Rattle.ottl_condition.specs.Comparing as spec;
+ghost use Rattle.ottl_condition.specs.Values.{value_of};
+
+use crate::encoded::order;
+use crate::equality::{lists_equal, maps_equal};
+use crate::value::Value;
+use ottl_text::Binary;
+use std::cmp::Ordering;
+use std::num::nearest_i64_to_f64;
+
+/// Whether a comparison holds of two values in this order.
+fn holds(binary: Binary, order: Option<Ordering>) -> bool
+    ensures { result ≡ spec.holds binary order }
+{
+    match binary {
+        Binary::Equal => is_equal(order),
+        Binary::NotEqual => !is_equal(order),
+        Binary::Less => is_less(order),
+        Binary::AtMost => is_less(order) || is_equal(order),
+        Binary::Greater => is_greater(order),
+        Binary::AtLeast => is_greater(order) || is_equal(order),
+        _ => false,
+    }
+}
+
+fn is_less(order: Option<Ordering>) -> bool
+    ensures { result ≡ spec.is_less order }
+{
+    matches!(order, Some(Ordering::Less))
+}
+
+fn is_equal(order: Option<Ordering>) -> bool
+    ensures { result ≡ spec.is_equal order }
+{
+    matches!(order, Some(Ordering::Equal))
+}
+
+fn is_greater(order: Option<Ordering>) -> bool
+    ensures { result ≡ spec.is_greater order }
+{
+    matches!(order, Some(Ordering::Greater))
+}
+
+/// The order of two values, if they have one.
+fn order_of(left: &Value<'_>, right: &Value<'_>) -> Option<Ordering>
+    ensures { result ≡ spec.order_of (value_of left.now) (value_of right.now) }
+{
+    if let Some(left) = left.text() {
+        return Some(left.cmp(right.text()?));
+    }
+    if let Some(left) = left.bytes() {
+        return Some(order(left, right.bytes()?));
+    }
+    match (left, right) {
+        (Value::Nil, Value::Nil) => Some(Ordering::Equal),
+        (Value::Bool(left), Value::Bool(right)) => Some(left.cmp(right)),
+        (Value::Int(left), Value::Int(right)) => Some(left.cmp(right)),
+        (Value::Int(left), Value::Float(right)) => nearest_i64_to_f64(*left).partial_cmp(right),
+        (Value::Float(left), Value::Int(right)) => left.partial_cmp(&nearest_i64_to_f64(*right)),
+        (Value::Float(left), Value::Float(right)) => left.partial_cmp(right),
+        (Value::Time(left), Value::Time(right)) => Some(left.cmp(right)),
+        (Value::Duration(left), Value::Duration(right)) => Some(left.cmp(right)),
+        _ => None,
+    }
+}
+
+/// Whether a comparison holds of two values that have no order, and may be equal.
+fn by_equality(binary: Binary, are_equal: bool) -> bool
+    ensures { result ≡ spec.by_equality binary are_equal }
+{
+    match binary {
+        Binary::Equal => are_equal,
+        Binary::NotEqual => !are_equal,
+        _ => false,
+    }
+}
+
+/// Whether a comparison holds.
+#[tactic(auto, unfolding(crate::specs::Comparing::compared))]
+pub(crate) fn compared(binary: Binary, left: &Value<'_>, right: &Value<'_>) -> bool
+    ensures { result ≡ spec.compared binary (value_of left.now) (value_of right.now) }
+{
+    match (left, right) {
+        (Value::Map(left), Value::Map(right)) => by_equality(binary, maps_equal(left, right)),
+        (Value::List(left), Value::List(right)) => by_equality(binary, lists_equal(left, right)),
+        _ => holds(binary, order_of(left, right)),
+    }
+}

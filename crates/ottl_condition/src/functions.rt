@@ -1,0 +1,174 @@
+//! Functions.
+ghost use Rattle.std.specs.Prelude.{◌≡◌, true};
+ghost use Rattle.std.specs.Fmt.{signed_decimal};
+ghost use Rattle.expression.specs.Expressions.{is_known, is_match};
+ghost use Rattle.ottl_condition.specs.Functions as spec;
+ghost use Rattle.ottl_condition.specs.Values.{value_of, answer_of, as_truth};
+
+use crate::conversions::{as_duration, as_float, as_int, as_text, truth_text};
+use crate::eval_error::EvalError;
+use crate::value::Value;
+use expression::Searches;
+use itoa::Buffer;
+use ottl_text::Unary;
+
+fn is_text(value: &Value<'_>) -> bool
+    ensures { result ≡ spec.is_text (value_of value.now) }
+{
+    matches!(value, Value::Text(_) | Value::Digits(_))
+}
+
+fn is_int(value: &Value<'_>) -> bool
+    ensures { result ≡ spec.is_int (value_of value.now) }
+{
+    matches!(value, Value::Int(_))
+}
+
+fn is_float(value: &Value<'_>) -> bool
+    ensures { result ≡ spec.is_float (value_of value.now) }
+{
+    matches!(value, Value::Float(_))
+}
+
+fn is_bool(value: &Value<'_>) -> bool
+    ensures { result ≡ spec.is_bool (value_of value.now) }
+{
+    matches!(value, Value::Bool(_))
+}
+
+fn is_map(value: &Value<'_>) -> bool
+    ensures { result ≡ spec.is_map (value_of value.now) }
+{
+    matches!(value, Value::Map(_))
+}
+
+fn is_list(value: &Value<'_>) -> bool
+    ensures { result ≡ spec.is_list (value_of value.now) }
+{
+    matches!(value, Value::List(_))
+}
+
+/// The bytes of a text, the pairs of a map, the values of a list.
+fn length_of<'a>(value: &Value<'_>) -> Result<Value<'a>, EvalError>
+    ensures { answer_of result ≡ spec.length_of (value_of value.now) }
+{
+    match value {
+        Value::Text(text) => Ok(Value::Int(text.len() as i64)),
+        Value::Digits(digits) => Ok(Value::Int(digits.len() as i64)),
+        Value::Map(pairs) => Ok(Value::Int(pairs.len() as i64)),
+        Value::List(values) => Ok(Value::Int(values.len() as i64)),
+        _ => Err(EvalError::NoLength),
+    }
+}
+
+/// The other truth value.
+fn negated<'a>(value: &Value<'_>) -> Result<Value<'a>, EvalError>
+    ensures { answer_of result ≡ spec.negated (as_truth (value_of value.now)) }
+{
+    match value.truth() {
+        Ok(truth) => Ok(Value::Bool(!truth)),
+        Err(error) => Err(error),
+    }
+}
+
+/// What a function of one value makes of it.
+#[tactic(auto, unfolding(crate::specs::Functions::made_of))]
+pub(crate) fn made_of<'a>(unary: Unary, value: &Value<'a>) -> Result<Value<'a>, EvalError>
+    ensures { answer_of result ≡ spec.made_of unary (value_of value.now) }
+{
+    match unary {
+        Unary::Not => negated(value),
+        Unary::IsString => Ok(Value::Bool(is_text(value))),
+        Unary::IsInt => Ok(Value::Bool(is_int(value))),
+        Unary::IsDouble => Ok(Value::Bool(is_float(value))),
+        Unary::IsBool => Ok(Value::Bool(is_bool(value))),
+        Unary::IsMap => Ok(Value::Bool(is_map(value))),
+        Unary::IsList => Ok(Value::Bool(is_list(value))),
+        Unary::Len => length_of(value),
+        Unary::Int => Ok(as_int(value)),
+        Unary::Double => Ok(as_float(value)),
+        Unary::Text => as_text(value),
+        Unary::Duration => as_duration(value),
+    }
+}
+
+/// Whether a text begins with another.
+fn has_prefix(text: &[u8], prefix: &[u8]) -> bool
+    ensures { result ≡ spec.has_prefix text.now prefix.now }
+{
+    match text.get(..prefix.len()) {
+        Some(front) => front == prefix,
+        None => false,
+    }
+}
+
+/// Whether a text ends with another.
+fn has_suffix(text: &[u8], suffix: &[u8]) -> bool
+    ensures { result ≡ spec.has_suffix text.now suffix.now }
+{
+    if suffix.len() <= text.len() {
+        &text[text.len() - suffix.len()..] == suffix
+    } else {
+        false
+    }
+}
+
+/// Whether a text begins with another; both have to be texts.
+#[tactic(auto, unfolding(crate::specs::Functions::tested))]
+pub(crate) fn begins<'a>(text: &Value<'_>, prefix: &Value<'_>) -> Result<Value<'a>, EvalError>
+    ensures { answer_of result ≡ spec.tested spec.has_prefix (value_of text.now) (value_of prefix.now) }
+{
+    match (text.text(), prefix.text()) {
+        (Some(text), Some(prefix)) => Ok(Value::Bool(has_prefix(
+            text.as_bytes(),
+            prefix.as_bytes(),
+        ))),
+        _ => Err(EvalError::NotAText),
+    }
+}
+
+/// Whether a text ends with another; both have to be texts.
+#[tactic(auto, unfolding(crate::specs::Functions::tested))]
+pub(crate) fn ends<'a>(text: &Value<'_>, suffix: &Value<'_>) -> Result<Value<'a>, EvalError>
+    ensures { answer_of result ≡ spec.tested spec.has_suffix (value_of text.now) (value_of suffix.now) }
+{
+    match (text.text(), suffix.text()) {
+        (Some(text), Some(suffix)) => Ok(Value::Bool(has_suffix(
+            text.as_bytes(),
+            suffix.as_bytes(),
+        ))),
+        _ => Err(EvalError::NotAText),
+    }
+}
+
+/// Whether a regular expression, which the searches know, has a match in the digits of a number.
+fn number_is_match(pattern: &str, number: i64, searches: &mut Searches) -> bool
+    requires known { is_known searches.old pattern.now ≡ true }
+    ensures found { result ≡ is_match pattern.now (signed_decimal number) }
+    ensures same { searches.new ≡ searches.old }
+{
+    let mut buffer = Buffer::new();
+    searches.finds(pattern, buffer.format(number))
+}
+
+/// Whether a regular expression, which the searches know, has a match in a text, or in that of a whole number or a truth
+/// value; `nil` has none.
+#[tactic(auto, unfolding(crate::specs::Functions::searched))]
+pub(crate) fn searched<'a>(
+    pattern: &str,
+    value: &Value<'_>,
+    searches: &mut Searches,
+) -> Result<Value<'a>, EvalError>
+    requires known { is_known searches.old pattern.now ≡ true }
+    ensures found { answer_of result ≡ spec.searched pattern.now (value_of value.now) }
+    ensures same { searches.new ≡ searches.old }
+{
+    match value {
+        Value::Text(text) => Ok(Value::Bool(searches.finds(pattern, text))),
+        Value::Digits(digits) => Ok(Value::Bool(searches.finds(pattern, digits.as_str()))),
+        Value::Int(number) => Ok(Value::Bool(number_is_match(pattern, *number, searches))),
+        Value::Bool(truth) => Ok(Value::Bool(searches.finds(pattern, truth_text(*truth)))),
+        Value::Nil => Ok(Value::Bool(false)),
+        _ => Err(EvalError::NotAText),
+    }
+}

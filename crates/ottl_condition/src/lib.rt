@@ -1,0 +1,33 @@
+//! What conditions on one span, or on one event of a span, mean (the Collector contrib's `pkg/ottl`, README, "Comparison Rules"; `LANGUAGE.md`): each
+//! is true of it, or false, or an error by name.
+//!
+//! What is said of them is read in this order: `specs/Subjects` (what a condition is asked of), `Encoded` (bytes in base64),
+//! `Values`, `Paths` (what a span and an event have), `Equality` (of lists and maps), `Comparing`, `Arithmetic`, `Conversions`,
+//! `Functions`, `Meaning`, `Laws`.
+//!
+//! ```
+//! let condition = ottl_text::parse(alloc, Context::Span, b"attributes[\"http.status_code\"] >= 500")?;
+//! let mut searches = ottl_condition::searches_for(alloc, &condition)?;
+//! let holds = ottl_condition::evaluate(&condition, Subject::Span(&record), &mut searches)?;
+//! ```
+#![tactic(auto)]
+
+mod arithmetic;
+mod comparing;
+mod conversions;
+mod encoded;
+mod equality;
+mod eval_error;
+mod evaluating;
+mod functions;
+mod laws;
+mod paths;
+mod searching;
+mod subject;
+mod value;
+
+pub use eval_error::EvalError;
+pub use evaluating::evaluate;
+pub use laws::{connectives_are_of_their_parts, not_goes_inside};
+pub use searching::{learn, searches_for};
+pub use subject::Subject;

@@ -1,0 +1,406 @@
+//! Expressions by their texts.
+ghost use Rattle.std.specs.Prelude.{◌≡◌, Ok};
+ghost use Rattle.ottl_text.specs.Gives.{GivesAs};
+ghost use Rattle.ottl_text.specs.Grammar as spec;
+ghost use Rattle.ottl_text.specs.Syntax.{term_of};
+ghost use Rattle.ottl_text.specs.Syntax as syntax;
+ghost use Rattle.ottl_text.specs.Tokens.{piece_of};
+
+use crate::expression::{Binary, Context, Expression, Key, Literal, Path, Root, Unary};
+use crate::fault::{FaultKind, ParseError};
+use crate::names::{binary_of, enumeration_of, operator_of, root_of, unary_of};
+use crate::pieces::{after_sign, is_the_sign, key_at, literal_at, next_at, pattern_at, refused};
+use crate::token::Token;
+use otlp_types::List;
+use std::alloc::Global;
+
+/// The keys behind a path, behind those that were read, at most so many.
+#[tactic(auto, unfolding(crate::specs::Grammar::keyed))]
+fn keyed(
+    alloc: Global,
+    behind: usize,
+    levels: usize,
+    mut keys: List<Key>,
+    bytes: &[u8],
+) -> Result<(List<Key>, &[u8]), ParseError>
+    ensures { GivesAs (λ found. (found.0, found.1.now)) result (spec.keyed behind levels keys bytes.now) }
+{
+    if levels == 0 {
+        return Err(refused(behind, FaultKind::TooDeep, bytes));
+    }
+    let (token, rest) = next_at(behind, bytes)?;
+    if !is_the_sign(b'[', token) {
+        return Ok((keys, bytes));
+    }
+    let (key, rest) = key_at(alloc, behind, rest)?;
+    let rest = after_sign(behind, b']', FaultKind::NoClosingBracket, rest)?;
+    keys.push(key)?;
+    keyed(alloc, behind, levels - 1, keys, rest)
+}
+
+/// A path that begins so, behind its name.
+#[tactic(auto, unfolding(crate::specs::Grammar::path_at))]
+fn path_at(
+    alloc: Global,
+    behind: usize,
+    levels: usize,
+    root: Root,
+    bytes: &[u8],
+) -> Result<(Expression, &[u8]), ParseError>
+    ensures { GivesAs (λ found. (term_of found.0, found.1.now)) result (spec.path_at behind levels root bytes.now) }
+{
+    let (keys, rest) = keyed(alloc, behind, levels, List::new(alloc), bytes)?;
+    if root.takes_keys() || keys.len() == 0 {
+        Ok((Expression::Path(Path { root, keys }), rest))
+    } else {
+        Err(refused(behind, FaultKind::TakesNoKeys, bytes))
+    }
+}
+
+/// `IsRootSpan`, behind its name.
+#[tactic(auto, unfolding(crate::specs::Grammar::root_span_at))]
+fn root_span_at(behind: usize, bytes: &[u8]) -> Result<(Expression, &[u8]), ParseError>
+    ensures { GivesAs (λ found. (term_of found.0, found.1.now)) result (spec.root_span_at behind bytes.now) }
+{
+    let rest = after_sign(behind, b'(', FaultKind::NoOpening, bytes)?;
+    let rest = after_sign(behind, b')', FaultKind::NoClosing, rest)?;
+    Ok((Expression::IsRootSpan, rest))
+}
+
+/// Two expressions joined by an operator, with which the bytes begin.
+#[tactic(auto, unfolding(crate::specs::Grammar::joined))]
+fn joined(
+    alloc: Global,
+    behind: usize,
+    binary: Binary,
+    left: Expression,
+    right: Expression,
+    bytes: &[u8],
+) -> Result<Expression, ParseError>
+    ensures { GivesAs term_of result (spec.joined behind binary (term_of left) (term_of right) bytes.now) }
+{
+    if binary.suits(&left) && binary.suits(&right) {
+        both(alloc, binary, left, right)
+    } else {
+        Err(refused(behind, binary.misplaced(), bytes))
+    }
+}
+
+/// What is made of two expressions.
+fn both(
+    alloc: Global,
+    binary: Binary,
+    left: Expression,
+    right: Expression,
+) -> Result<Expression, ParseError>
+    ensures { GivesAs term_of result (Ok (syntax.binary binary (term_of left) (term_of right))) }
+{
+    let left = Box::new(alloc, left)?;
+    let right = Box::new(alloc, right)?;
+    Ok(Expression::Binary(binary, left, right))
+}
+
+/// What is made of one expression.
+fn one(alloc: Global, unary: Unary, of: Expression) -> Result<Expression, ParseError>
+    ensures { GivesAs term_of result (Ok (syntax.unary unary (term_of of))) }
+{
+    Ok(Expression::Unary(unary, Box::new(alloc, of)?))
+}
+
+/// An expression whose operators bind at least so tight, and what is left.
+#[cycle(expression)]
+#[tactic(auto, unfolding(crate::specs::Grammar::expression))]
+pub(crate) fn expression(
+    alloc: Global,
+    behind: usize,
+    context: Context,
+    levels: usize,
+    least: u8,
+    bytes: &[u8],
+) -> Result<(Expression, &[u8]), ParseError>
+    ensures { GivesAs (λ found. (term_of found.0, found.1.now)) result (spec.expression behind context levels least bytes.now) }
+{
+    if levels == 0 {
+        return Err(refused(behind, FaultKind::TooDeep, bytes));
+    }
+    let (first, rest) = operand(alloc, behind, context, levels - 1, bytes)?;
+    operators(alloc, behind, context, levels - 1, least, first, rest)
+}
+
+/// What operators behind an expression make of it, from left to right.
+#[cycle(expression)]
+#[tactic(auto, unfolding(crate::specs::Grammar::operators))]
+fn operators(
+    alloc: Global,
+    behind: usize,
+    context: Context,
+    levels: usize,
+    least: u8,
+    left: Expression,
+    bytes: &[u8],
+) -> Result<(Expression, &[u8]), ParseError>
+    ensures { GivesAs (λ found. (term_of found.0, found.1.now)) result (spec.operators behind context levels least (term_of left) bytes.now) }
+{
+    if levels == 0 {
+        return Err(refused(behind, FaultKind::TooDeep, bytes));
+    }
+    let (token, rest) = next_at(behind, bytes)?;
+    match operator_of(token) {
+        Some(binary) if least <= binary.precedence() => {
+            let least_inside = binary.precedence() + 1;
+            let (right, rest) = expression(alloc, behind, context, levels - 1, least_inside, rest)?;
+            let both = joined(alloc, behind, binary, left, right, bytes)?;
+            operators(alloc, behind, context, levels - 1, least, both, rest)
+        }
+        _ => Ok((left, bytes)),
+    }
+}
+
+/// An operand, whose parts nest at most so many levels, and what is left.
+#[cycle(expression)]
+#[tactic(auto, unfolding(crate::specs::Grammar::operand))]
+fn operand(
+    alloc: Global,
+    behind: usize,
+    context: Context,
+    levels: usize,
+    bytes: &[u8],
+) -> Result<(Expression, &[u8]), ParseError>
+    ensures { GivesAs (λ found. (term_of found.0, found.1.now)) result (spec.operand behind (spec.expression behind context levels) levels context bytes.now) }
+{
+    let (token, rest) = next_at(behind, bytes)?;
+    match token {
+        Token::Word(word) => word_at(alloc, behind, context, levels, word, bytes, rest),
+        Token::Sign(sign) => {
+            if sign == b'(' {
+                inner_at(alloc, behind, context, levels, rest)
+            } else {
+                Err(refused(behind, FaultKind::NoValueHere, bytes))
+            }
+        }
+        _ => {
+            let literal = literal_at(alloc, behind, token, bytes)?;
+            Ok((Expression::Literal(literal), rest))
+        }
+    }
+}
+
+/// What is in parentheses, behind the first.
+#[cycle(expression)]
+#[tactic(auto, unfolding(crate::specs::Grammar::inner_at))]
+fn inner_at(
+    alloc: Global,
+    behind: usize,
+    context: Context,
+    levels: usize,
+    bytes: &[u8],
+) -> Result<(Expression, &[u8]), ParseError>
+    ensures { GivesAs (λ found. (term_of found.0, found.1.now)) result (spec.inner_at behind (spec.expression behind context levels) bytes.now) }
+{
+    let (inner, rest) = expression(alloc, behind, context, levels, 1, bytes)?;
+    let rest = after_sign(behind, b')', FaultKind::NoClosing, rest)?;
+    Ok((inner, rest))
+}
+
+/// What a name is, with which the bytes begin, and `rest` is left behind it.
+#[cycle(expression)]
+#[tactic(auto, unfolding(crate::specs::Grammar::word_at))]
+fn word_at<'a>(
+    alloc: Global,
+    behind: usize,
+    context: Context,
+    levels: usize,
+    word: &[u8],
+    bytes: &[u8],
+    rest: &'a [u8],
+) -> Result<(Expression, &'a [u8]), ParseError>
+    ensures { GivesAs (λ found. (term_of found.0, found.1.now)) result (spec.word_at behind (spec.expression behind context levels) levels context word.now bytes.now rest.now) }
+{
+    if word == b"not".as_slice() {
+        not_at(alloc, behind, context, levels, rest)
+    } else if word == b"nil".as_slice() {
+        Ok((Expression::Literal(Literal::Nil), rest))
+    } else if word == b"true".as_slice() {
+        Ok((Expression::Literal(Literal::Bool(true)), rest))
+    } else if word == b"false".as_slice() {
+        Ok((Expression::Literal(Literal::Bool(false)), rest))
+    } else if word == b"IsRootSpan".as_slice() {
+        root_span_at(behind, rest)
+    } else if word == b"IsMatch".as_slice() {
+        match_at(alloc, behind, context, levels, rest)
+    } else if word == b"Substring".as_slice() {
+        substring_at(alloc, behind, context, levels, rest)
+    } else {
+        named_at(alloc, behind, context, levels, word, bytes, rest)
+    }
+}
+
+/// A function, an enumeration or a path.
+#[cycle(expression)]
+#[tactic(auto, unfolding(crate::specs::Grammar::named_at))]
+fn named_at<'a>(
+    alloc: Global,
+    behind: usize,
+    context: Context,
+    levels: usize,
+    word: &[u8],
+    bytes: &[u8],
+    rest: &'a [u8],
+) -> Result<(Expression, &'a [u8]), ParseError>
+    ensures { GivesAs (λ found. (term_of found.0, found.1.now)) result (spec.named_at behind (spec.expression behind context levels) levels context word.now bytes.now rest.now) }
+{
+    if let Some(unary) = unary_of(word) {
+        return unary_at(alloc, behind, context, levels, unary, rest);
+    }
+    if let Some(binary) = binary_of(word) {
+        return binary_at(alloc, behind, context, levels, binary, rest);
+    }
+    if let Some(number) = enumeration_of(word) {
+        return Ok((Expression::Literal(Literal::Int(number)), rest));
+    }
+    match root_of(context, word) {
+        Some(root) => path_at(alloc, behind, levels, root, rest),
+        None => Err(refused(behind, FaultKind::UnknownName, bytes)),
+    }
+}
+
+/// Behind `not`.
+#[cycle(expression)]
+#[tactic(auto, unfolding(crate::specs::Grammar::not_at))]
+fn not_at(
+    alloc: Global,
+    behind: usize,
+    context: Context,
+    levels: usize,
+    bytes: &[u8],
+) -> Result<(Expression, &[u8]), ParseError>
+    ensures { GivesAs (λ found. (term_of found.0, found.1.now)) result (spec.not_at behind (spec.expression behind context levels) bytes.now) }
+{
+    let (of, rest) = expression(alloc, behind, context, levels, 3, bytes)?;
+    if !of.is_condition() {
+        return Err(refused(behind, FaultKind::NotACondition, bytes));
+    }
+    let not = one(alloc, Unary::Not, of)?;
+    Ok((not, rest))
+}
+
+/// A value that is given to a function, and what is left.
+#[cycle(expression)]
+#[tactic(auto, unfolding(crate::specs::Grammar::argument_at))]
+fn argument_at(
+    alloc: Global,
+    behind: usize,
+    context: Context,
+    levels: usize,
+    bytes: &[u8],
+) -> Result<(Expression, &[u8]), ParseError>
+    ensures { GivesAs (λ found. (term_of found.0, found.1.now)) result (spec.argument_at behind (spec.expression behind context levels) bytes.now) }
+{
+    let (value, rest) = expression(alloc, behind, context, levels, 4, bytes)?;
+    if value.is_value() {
+        Ok((value, rest))
+    } else {
+        Err(refused(behind, FaultKind::NotAValue, bytes))
+    }
+}
+
+/// A function of one value, behind its name.
+#[cycle(expression)]
+#[tactic(auto, unfolding(crate::specs::Grammar::unary_at))]
+fn unary_at(
+    alloc: Global,
+    behind: usize,
+    context: Context,
+    levels: usize,
+    unary: Unary,
+    bytes: &[u8],
+) -> Result<(Expression, &[u8]), ParseError>
+    ensures { GivesAs (λ found. (term_of found.0, found.1.now)) result (spec.unary_at behind (spec.expression behind context levels) unary bytes.now) }
+{
+    let rest = after_sign(behind, b'(', FaultKind::NoOpening, bytes)?;
+    let (of, rest) = argument_at(alloc, behind, context, levels, rest)?;
+    let rest = after_sign(behind, b')', FaultKind::NoClosing, rest)?;
+    let call = one(alloc, unary, of)?;
+    Ok((call, rest))
+}
+
+/// A function of two values, behind its name.
+#[cycle(expression)]
+#[tactic(auto, unfolding(crate::specs::Grammar::binary_at))]
+fn binary_at(
+    alloc: Global,
+    behind: usize,
+    context: Context,
+    levels: usize,
+    binary: Binary,
+    bytes: &[u8],
+) -> Result<(Expression, &[u8]), ParseError>
+    ensures { GivesAs (λ found. (term_of found.0, found.1.now)) result (spec.binary_at behind (spec.expression behind context levels) binary bytes.now) }
+{
+    let rest = after_sign(behind, b'(', FaultKind::NoOpening, bytes)?;
+    let (left, rest) = argument_at(alloc, behind, context, levels, rest)?;
+    let rest = after_sign(behind, b',', FaultKind::NoComma, rest)?;
+    let (right, rest) = argument_at(alloc, behind, context, levels, rest)?;
+    let rest = after_sign(behind, b')', FaultKind::NoClosing, rest)?;
+    let call = both(alloc, binary, left, right)?;
+    Ok((call, rest))
+}
+
+/// `IsMatch`, behind its name.
+#[cycle(expression)]
+#[tactic(auto, unfolding(crate::specs::Grammar::match_at))]
+fn match_at(
+    alloc: Global,
+    behind: usize,
+    context: Context,
+    levels: usize,
+    bytes: &[u8],
+) -> Result<(Expression, &[u8]), ParseError>
+    ensures { GivesAs (λ found. (term_of found.0, found.1.now)) result (spec.match_at behind (spec.expression behind context levels) bytes.now) }
+{
+    let rest = after_sign(behind, b'(', FaultKind::NoOpening, bytes)?;
+    let (value, rest) = argument_at(alloc, behind, context, levels, rest)?;
+    let rest = after_sign(behind, b',', FaultKind::NoComma, rest)?;
+    let (pattern, rest) = pattern_at(alloc, behind, rest)?;
+    let rest = after_sign(behind, b')', FaultKind::NoClosing, rest)?;
+    let value = Box::new(alloc, value)?;
+    Ok((Expression::IsMatch(value, pattern), rest))
+}
+
+/// `Substring`, behind its name.
+#[cycle(expression)]
+#[tactic(auto, unfolding(crate::specs::Grammar::substring_at))]
+fn substring_at(
+    alloc: Global,
+    behind: usize,
+    context: Context,
+    levels: usize,
+    bytes: &[u8],
+) -> Result<(Expression, &[u8]), ParseError>
+    ensures { GivesAs (λ found. (term_of found.0, found.1.now)) result (spec.substring_at behind (spec.expression behind context levels) bytes.now) }
+{
+    let rest = after_sign(behind, b'(', FaultKind::NoOpening, bytes)?;
+    let (text, rest) = argument_at(alloc, behind, context, levels, rest)?;
+    let rest = after_sign(behind, b',', FaultKind::NoComma, rest)?;
+    let (start, rest) = argument_at(alloc, behind, context, levels, rest)?;
+    let rest = after_sign(behind, b',', FaultKind::NoComma, rest)?;
+    let (size, rest) = argument_at(alloc, behind, context, levels, rest)?;
+    let rest = after_sign(behind, b')', FaultKind::NoClosing, rest)?;
+    let call = part(alloc, text, start, size)?;
+    Ok((call, rest))
+}
+
+/// A part of a text.
+fn part(
+    alloc: Global,
+    text: Expression,
+    start: Expression,
+    size: Expression,
+) -> Result<Expression, ParseError>
+    ensures { GivesAs term_of result (Ok (syntax.substring (term_of text) (term_of start) (term_of size))) }
+{
+    let text = Box::new(alloc, text)?;
+    let start = Box::new(alloc, start)?;
+    let size = Box::new(alloc, size)?;
+    Ok(Expression::Substring(text, start, size))
+}

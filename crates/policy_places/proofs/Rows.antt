@@ -1,0 +1,80 @@
+-- Worked rows: where faults of policies stand, and orders that follow. No clause needs them: they show what `Walk` and
+-- `Orders` say, which code and contracts follow.
+use Rattle.std.proofs.Common.{◌≡◌, ℕ, pos, true, false, List, [], ◌∷◌, map, codes, Option, Some, None, refl}
+use Rattle.std.specs.Fmt.{digits}
+use Rattle.toml.specs.Data.{Data, string, integer, array, table, Items, no_items, item, Members, no_members, member}
+use Rattle.policy_tree.specs.declared.fault.PolicyFault.{PolicyFault}
+use Rattle.policy_tree.specs.declared.fault.PolicyFault.TheVariants.{EmptyList, TooDeep, TooMany, SameName, CrossedBounds, NoValues}
+use Rattle.policy_places.specs.Orders.{order_follows}
+use Rattle.policy_places.specs.Places.{key_place, item_place, doubled_name}
+use Rattle.policy_places.specs.Walk.{Place, fault_place, unnamed, leaf_settings_place}
+
+-- a policy table of this name and type, with these settings
+abbrev named : (name kind : List ℕ) → (settings : Members) → Data
+named name kind settings = table (member (codes "name") (string name) (member (codes "type") (string kind) (member kind (table settings) no_members)))
+
+-- one without a name
+abbrev nameless : Data
+nameless = table (member (codes "type") (string (codes "always_sample")) no_members)
+
+abbrev list : Data → Data → Data
+list first second = array (item first (item second no_items))
+
+abbrev policies : Data → Members
+policies value = member (codes "policies") value no_members
+
+abbrev number : (key : List ℕ) → (value : ℕ) → Members → Members
+number key value rest = member key (integer (pos value)) rest
+
+-- the first place of each fault in a table
+abbrev places : Members → List (Option Place)
+places members = map (λ (fault : PolicyFault). fault_place fault members) (EmptyList ∷ SameName ∷ CrossedBounds ∷ NoValues ∷ TooDeep ∷ TooMany ∷ [])
+
+written : key_place [] (codes "a") ∷ key_place (codes "a") (codes "b") ∷ item_place (codes "a.b") 0 ∷ item_place (codes "a") 12 ∷ []
+    ≡ codes "a" ∷ codes "a.b" ∷ codes "a.b[0]" ∷ codes "a[12]" ∷ []
+unfolding digits
+written = refl
+
+-- no policies, some that are no array, a list of what are no tables, two without a name, and an empty list
+nowhere : map places (no_members ∷ policies (integer (pos 1)) ∷ policies (list (integer (pos 1)) (integer (pos 2))) ∷ policies (list nameless nameless) ∷ [])
+    ≡ (None ∷ None ∷ None ∷ None ∷ None ∷ None ∷ []) ∷ (None ∷ None ∷ None ∷ None ∷ None ∷ None ∷ []) ∷ (None ∷ None ∷ None ∷ None ∷ None ∷ None ∷ []) ∷ (None ∷ None ∷ None ∷ None ∷ None ∷ None ∷ []) ∷ []
+nowhere = refl
+
+empty : places (policies (array no_items)) ≡ Some (unnamed (codes "policies")) ∷ None ∷ None ∷ None ∷ None ∷ None ∷ []
+empty = refl
+
+-- within the second of two, of a drop that is in a not: a latency whose bounds are the same, then two of one name, one
+-- of them with no values
+abbrev inner : Data
+inner = named (codes "n") (codes "not") (member (codes "not_sub_policy") (named (codes "d") (codes "drop") (member (codes "drop_sub_policy") (array
+    (item (named (codes "x") (codes "latency") (number (codes "threshold_ms") 2 (number (codes "upper_threshold_ms") 2 no_members)))
+    (item (named (codes "y") (codes "span_count") (number (codes "min_spans") 2 no_members))
+    (item (named (codes "x") (codes "trace_state") (member (codes "values") (array no_items) no_members)) no_items)))) no_members)) no_members)
+
+within : places (policies (list nameless inner)) ≡ None
+    ∷ Some (record { keys = codes "policies[1].not.not_sub_policy.drop.drop_sub_policy"; name = Some (codes "x") })
+    ∷ Some (unnamed (codes "policies[1].not.not_sub_policy.drop.drop_sub_policy[0].latency"))
+    ∷ Some (unnamed (codes "policies[1].not.not_sub_policy.drop.drop_sub_policy[2].trace_state.values"))
+    ∷ None ∷ None ∷ []
+unfolding leaf_settings_place digits
+within = refl
+
+-- of two doubled names the first
+first_of_two : map doubled_name ((item (named (codes "a") (codes "and") no_members) (item (named (codes "b") (codes "and") no_members) (item (named (codes "b") (codes "and") no_members) (item (named (codes "a") (codes "and") no_members) no_items))))
+    ∷ (item nameless (item (named [] (codes "and") no_members) (item (named [] (codes "and") no_members) no_items))) ∷ (item nameless (item nameless (item (named [] (codes "and") no_members) no_items))) ∷ [])
+    ≡ Some (codes "a") ∷ Some [] ∷ None ∷ []
+first_of_two = refl
+
+-- an order beside a part without a name: a text and a part that has another name, a number and a part, as many as parts,
+-- one fewer, one more
+abbrev order : List Data → Items
+order [] = no_items
+order (first ∷ rest) = item first (order rest)
+
+abbrev parts : Data
+parts = list (named (codes "a") (codes "and") no_members) nameless
+
+orders : map (λ (texts : List Data). order_follows (Some (array (order texts))) (Some parts))
+    ((string (codes "a") ∷ string (codes "b") ∷ []) ∷ (string (codes "b") ∷ string (codes "b") ∷ []) ∷ (integer (pos 1) ∷ string (codes "b") ∷ []) ∷ (string (codes "a") ∷ []) ∷ (string (codes "a") ∷ string (codes "b") ∷ string (codes "c") ∷ []) ∷ [])
+    ≡ true ∷ false ∷ true ∷ false ∷ false ∷ []
+orders = refl

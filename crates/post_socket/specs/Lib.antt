@@ -1,0 +1,2 @@
+-- Rejected (what an answer in protobuf says was rejected).
+pub mod Rejected

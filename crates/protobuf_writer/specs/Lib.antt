@@ -1,0 +1,4 @@
+-- in reading order
+pub mod Writing
+pub mod Defaults
+pub mod Laws

@@ -1,0 +1,5 @@
+mod Behind
+mod Bodies
+mod Rows
+mod Texts
+mod Walking
