@@ -6,7 +6,7 @@ ghost use Rattle.ottl_condition.specs.Subjects.{subject_of};
 ghost use Rattle.ottl_lists.specs.Lists as spec;
 
 use expression::Searches;
-use otlp_types::Record;
+use otlp_types::{Arrival, Record};
 use ottl_condition::{EvalError, Subject, evaluate, learn};
 use ottl_text::Expression;
 use std::alloc::{AllocError, Global};
@@ -73,6 +73,50 @@ pub fn some_event_holds(
 {
     for event in sent.span.get().events.as_slice() {
         match some_holds(conditions, mode, Subject::Event(sent, event), searches) {
+            Ok(true) => return Ok(true),
+            Ok(false) => {}
+            Err(error) => return Err(error),
+        }
+    }
+    Ok(false)
+}
+
+/// Whether some condition on spans is true of the span, or some condition on events of one of its events, or an error that
+/// ends it.
+fn span_meets(
+    span: &[Expression],
+    span_event: &[Expression],
+    mode: ErrorMode,
+    sent: &Record,
+    searches: &mut Searches,
+) -> Result<bool, EvalError>
+    requires span { are_known searches.old (spec.patterns_in (map term_of span.now)) ≡ true }
+    requires span_event { are_known searches.old (spec.patterns_in (map term_of span_event.now)) ≡ true }
+    ensures meaning { result ≡ spec.span_meets mode (map term_of span.now) (map term_of span_event.now) sent.now }
+    ensures same { searches.new ≡ searches.old }
+{
+    match some_holds(span, mode, Subject::Span(sent), searches) {
+        Ok(false) => some_event_holds(span_event, mode, sent, searches),
+        answer => answer,
+    }
+}
+
+/// Whether some span of a trace meets a condition on spans, or one of its events a condition on events, or an error that ends
+/// it. The spans are asked in their order, each before its events, and those before the next span.
+pub fn trace_meets(
+    span: &[Expression],
+    span_event: &[Expression],
+    mode: ErrorMode,
+    spans: &[Arrival],
+    searches: &mut Searches,
+) -> Result<bool, EvalError>
+    requires span { are_known searches.old (spec.patterns_in (map term_of span.now)) ≡ true }
+    requires span_event { are_known searches.old (spec.patterns_in (map term_of span_event.now)) ≡ true }
+    ensures meaning { result ≡ spec.trace_meets mode (map term_of span.now) (map term_of span_event.now) spans.now }
+    ensures same { searches.new ≡ searches.old }
+{
+    for arrival in spans {
+        match span_meets(span, span_event, mode, &arrival.rec, searches) {
             Ok(true) => return Ok(true),
             Ok(false) => {}
             Err(error) => return Err(error),

@@ -1,5 +1,6 @@
 //! Why a text is no condition.
 use std::alloc::{AllocError, AllocFailed};
+use std::fmt;
 
 /// What is wrong with a text.
 #[derive(Clone, Copy, Debug, PartialEq, Eq, Drop)]
@@ -46,6 +47,51 @@ pub enum FaultKind {
     NotANumber,
     /// It nests too deep, or has too many operators in a row: more than 200.
     TooDeep,
+}
+
+impl fmt::Display for FaultKind {
+    ghost use Rattle.std.specs.Prelude.{Some};
+    ghost use Rattle.ottl_text.specs.FaultTexts.{fault_text};
+
+    ghost output = { λ kind. Some (fault_text kind) };
+
+    fn fmt<W: fmt::Write>(&self, f: &mut fmt::Formatter<W>) -> fmt::Result {
+        match self {
+            FaultKind::UnknownCharacter => f.write_str(
+                "no value, name or operator begins with this character",
+            ),
+            FaultKind::OpenText => f.write_str("the text that begins here has no closing quote"),
+            FaultKind::UnknownEscape => f.write_str(
+                "one of \" \\ a b f n r t v is wanted behind a backslash",
+            ),
+            FaultKind::LineEnd => f.write_str(
+                "a text goes on behind the end of its line; \\n writes one",
+            ),
+            FaultKind::Utf8 => f.write_str("the text isn't in UTF-8"),
+            FaultKind::NumberTooBig => f.write_str("no number of 64 bits is this one"),
+            FaultKind::OddDigits => f.write_str("an even number of hex digits is wanted behind 0x"),
+            FaultKind::UnknownName => f.write_str("no path, function or enumeration has this name"),
+            FaultKind::NoValueHere => f.write_str(
+                "a literal, a path, a function or a parenthesis is wanted",
+            ),
+            FaultKind::NoOpening => f.write_str("( is wanted"),
+            FaultKind::NoClosing => f.write_str(") is wanted"),
+            FaultKind::NoComma => f.write_str(", is wanted"),
+            FaultKind::NoPattern => f.write_str("a regular expression in quotes is wanted"),
+            FaultKind::NoKey => f.write_str("a key in quotes or a whole number is wanted"),
+            FaultKind::NoClosingBracket => f.write_str("] is wanted"),
+            FaultKind::TakesNoKeys => f.write_str("what stands before this has no keys"),
+            FaultKind::GoesOn => f.write_str("the condition ends before this"),
+            FaultKind::NotAValue => f.write_str("a value is wanted, and a condition stands here"),
+            FaultKind::NotACondition => f.write_str(
+                "a condition is wanted, and a value stands here",
+            ),
+            FaultKind::NotANumber => f.write_str("a number is wanted"),
+            FaultKind::TooDeep => f.write_str(
+                "it nests more than 200 levels deep, or has more than 200 operators in a row",
+            ),
+        }
+    }
 }
 
 /// What is wrong, and where.

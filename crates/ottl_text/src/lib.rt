@@ -2,7 +2,8 @@
 //! `LANGUAGE.md`), read into a tree. What a tree means stands in `ottl_condition`.
 //!
 //! What is said of them is read in this order: `specs/Syntax` (the tree), `Tokens` (the pieces of a text), `Literals`,
-//! `Names` (paths, functions, enumerations), `Grammar` (which text is which tree, or its first fault), `Gives`.
+//! `Names` (paths, functions, enumerations), `Grammar` (which text is which tree, or its first fault), `Gives`, `FaultTexts` (what a
+//! fault is told as).
 //!
 //! ```
 //! let condition = ottl_text::parse(alloc, Context::Span, b"kind == SPAN_KIND_SERVER and Len(name) > 3")?;
