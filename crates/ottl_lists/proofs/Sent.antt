@@ -9,7 +9,7 @@ use Rattle.ottl_lists.specs.contracts.conditions.Conditions as conditions
 use Rattle.std.proofs.Crossing.{crosses}
 
 condition_send : IsSend condition.the_row
-condition_send = search (sendable, crosses, searches_send, text.the_send, text.the_field_send, knot.send-Expression) depth 100 fits 100000
+condition_send = search (sendable, crosses, searches_send, text.the_send, knot.send-Expression) depth 100 fits 100000
 
 pub conditions_send : IsSend conditions.the_row
 conditions_send = search (sendable, crosses, condition_send) depth 100 fits 100000

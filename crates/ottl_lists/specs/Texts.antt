@@ -55,9 +55,9 @@ PatternsFail faults.NotAnExpression patterns = list_all is_expression patterns �
 PatternsFail faults.ExpressionTooBig patterns = list_all is_expression patterns ≡ true
 PatternsFail faults.NoMemory patterns = Unit {0}
 
--- what is wrong with a text that was read so
-abbrev pub IsFaultOf : ConditionFault → Result Term Fault → Type 0
-IsFaultOf (faults.NotACondition fault) read = read ≡ Err fault
-IsFaultOf faults.NotAnExpression read = is_read read ≡ false
-IsFaultOf faults.ExpressionTooBig read = is_read read ≡ true
-IsFaultOf faults.NoMemory read = Unit {0}
+-- what is wrong with a text as a condition on this; where memory was refused nothing is said
+abbrev pub IsFaultOf : ConditionFault → Context → (text : List ℕ) → Type 0
+IsFaultOf (faults.NotACondition fault) context text = (condition_of context text ≡ Err fault) × (is_condition context text ≡ false)
+IsFaultOf faults.NotAnExpression context text = is_condition context text ≡ false
+IsFaultOf faults.ExpressionTooBig context text = is_condition context text ≡ true
+IsFaultOf faults.NoMemory context text = Unit {0}

@@ -2,7 +2,6 @@
 ghost use Rattle.std.specs.Prelude.{◌≡◌, true, IfOk, IfErr};
 ghost use Rattle.std.specs.List.{list_all};
 ghost use Rattle.expression.specs.Expressions.{is_expression};
-ghost use Rattle.ottl_text.specs.Grammar.{condition_of};
 ghost use Rattle.ottl_text.specs.Syntax.{term_of};
 ghost use Rattle.ottl_condition.specs.Meaning.{patterns_of};
 ghost use Rattle.ottl_lists.specs.Texts.{is_condition, IsFaultOf, PatternsFail};
@@ -30,7 +29,7 @@ pub enum ConditionFault {
 #[tactic(auto, unfolding(crate::specs::Texts::is_condition))]
 pub fn check(alloc: Global, context: Context, text: &str) -> Result<(), ConditionFault>
     ensures condition { IfOk result (λ _. is_condition context text.now ≡ true) }
-    ensures fault { IfErr result (λ fault. IsFaultOf fault (condition_of context text.now)) }
+    ensures fault { IfErr result (λ fault. IsFaultOf fault context text.now) }
 {
     match parse(alloc, context, text.as_bytes()) {
         Ok(read) => check_patterns(alloc, &read),

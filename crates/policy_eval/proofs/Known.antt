@@ -30,11 +30,17 @@ pub known-at : (known : Known) (items : List Named) (i : ℕ) (p : Named) → i 
 known-at known items i p h is k = parts-known known (expressions_of (policy_meaning p)) (expressions_in (meaning (drop (i + 1) items))) (part_at (KnowsIn known) items i p h is k)
 
 -- the conditions of a leaf are known where their expressions are
-pub conditions-known : (known : Known) (context : Context) (texts : List (List ℕ)) → are_known known (map (of_kind (Condition context)) texts) ≡ true → conditions.are_known known.1 context texts ≡ true
+conditions-known : (known : Known) (context : Context) (texts : List (List ℕ)) → are_known known (map (of_kind (Condition context)) texts) ≡ true → conditions.are_known known.1 context texts ≡ true
 conditions-known known context [] h = refl
 conditions-known known context (t ∷ texts) h =
     let parts = and_parts (conditions.is_known known.1 context t) (are_known known (map (of_kind (Condition context)) texts)) h in
     rw (parts.0, conditions-known known context texts parts.1) refl
+
+pub on_span_known : (known : Known) (on_span on_event : List (List ℕ)) → are_known known (map (of_kind (Condition Span)) on_span ++ map (of_kind (Condition SpanEvent)) on_event) ≡ true → conditions.are_known known.1 Span on_span ≡ true
+on_span_known known on_span on_event h = conditions-known known Span on_span (parts-known known (map (of_kind (Condition Span)) on_span) (map (of_kind (Condition SpanEvent)) on_event) h).0
+
+pub on_event_known : (known : Known) (on_span on_event : List (List ℕ)) → are_known known (map (of_kind (Condition Span)) on_span ++ map (of_kind (Condition SpanEvent)) on_event) ≡ true → conditions.are_known known.1 SpanEvent on_event ≡ true
+on_event_known known on_span on_event h = conditions-known known SpanEvent on_event (parts-known known (map (of_kind (Condition Span)) on_span) (map (of_kind (Condition SpanEvent)) on_event) h).1
 
 -- ---- what is gathered is known
 
@@ -49,6 +55,7 @@ or-last false b h = h
 
 or-first : (a b : Bool) → a ≡ true → (a || b) ≡ true
 or-first true b h = refl
+or-first false b h = cc
 
 kept-regular : (texts more : List (List ℕ)) (t : List ℕ) → regular.is_known texts t ≡ true → regular.is_known (texts ++ more) t ≡ true
 kept-regular texts more t h = list_any-append (λ known. bytes_eq known t) texts more ∙ or-first (regular.is_known texts t) (regular.is_known more t) h

@@ -50,12 +50,7 @@ pub fn leaf_answer(leaf: &Leaf, spans: &[Arrival], searches: &mut Searches) -> A
             error_mode,
             on_span,
             on_event,
-        } => Answer::plain(searches.meets(
-            *error_mode,
-            on_span.as_slice(),
-            on_event.as_slice(),
-            spans,
-        )),
+        } => Answer::plain(searches.meets(*error_mode, on_span, on_event, spans)),
         Leaf::TraceFlags => Answer::plain(is_flagged(spans)),
     }
 }

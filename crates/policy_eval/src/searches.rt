@@ -1,13 +1,14 @@
 //! What searches for the regular expressions of policies, and their conditions as they were read.
-ghost use Rattle.std.specs.Prelude.{◌≡◌, true, [], OnOk};
+ghost use Rattle.std.specs.Prelude.{◌≡◌, ◌++◌, true, [], map, OnOk};
 ghost use Rattle.expression.specs.Expressions.{is_known, is_match};
 ghost use Rattle.ottl_text.specs.declared.expression.Context.TheVariants.{Span, SpanEvent};
-ghost use Rattle.ottl_lists.specs.Texts as conditions;
 ghost use Rattle.ottl_lists.specs.Lists.{trace_meets};
 ghost use Rattle.policy_eval.specs.Policies.{holds_so};
-ghost use Rattle.policy_eval.specs.Searches.{with_one};
+ghost use Rattle.policy_tree.specs.declared.expressions.ExpressionKind.TheVariants.{Condition};
+ghost use Rattle.policy_tree.specs.Expressions.{of_kind};
+ghost use Rattle.policy_eval.specs.Searches.{are_known, with_one};
 
-use otlp_types::{Arrival, Text};
+use otlp_types::{Arrival, List, Text};
 use ottl_lists::Conditions;
 use ottl_text::ErrorMode;
 use policy_tree::{ExpressionKind, PolicyExpression};
@@ -63,18 +64,19 @@ impl Searches {
 
     /// Whether some span of a trace meets one of the conditions on spans, or one of its events one of those on events, where no
     /// error ends them. It takes no memory that can be refused.
+    #[tactic(auto, using(crate::proofs::Known::on_span_known, crate::proofs::Known::on_event_known))]
     pub fn meets(
         &mut self,
         mode: ErrorMode,
-        on_span: &[Text],
-        on_event: &[Text],
+        on_span: &List<Text>,
+        on_event: &List<Text>,
         spans: &[Arrival],
     ) -> bool
-        requires on_span { conditions.are_known self.old.1 Span on_span.now ≡ true }
-        requires on_event { conditions.are_known self.old.1 SpanEvent on_event.now ≡ true }
+        requires known { are_known self.old (map (of_kind (Condition Span)) on_span.now ++ map (of_kind (Condition SpanEvent)) on_event.now) ≡ true }
         ensures met { result ≡ holds_so (trace_meets mode on_span.now on_event.now spans.now) }
         ensures same { self.new ≡ self.old }
     {
+        let (on_span, on_event) = (on_span.as_slice(), on_event.as_slice());
         match ottl_lists::trace_meets(&mut self.conditions, mode, on_span, on_event, spans) {
             Ok(holds) => holds,
             Err(_) => false,
