@@ -4,6 +4,7 @@ use Rattle.std.specs.Prelude.{◌≡◌, ℕ, pos, Bool, true, false, List, [], 
 use Rattle.otlp_types.specs.Empty.{no_resource, no_scope, plain_span}
 use Rattle.otlp_types.specs.declared.span.Event.{Event}
 use Rattle.otlp_types.specs.declared.arrival.Record.{Record}
+use Rattle.otlp_types.specs.declared.arrival.Arrival.{Arrival}
 use Rattle.ottl_text.specs.declared.expression.Root.TheVariants as roots
 use Rattle.ottl_text.specs.declared.expression.Literal.TheVariants as literals
 use Rattle.ottl_text.specs.declared.expression.Binary.TheVariants as two
@@ -14,7 +15,7 @@ use Rattle.ottl_condition.specs.Comparing.{compared}
 use Rattle.ottl_condition.specs.Arithmetic.{calculated}
 use Rattle.ottl_condition.specs.Meaning.{combined, meaning}
 use Rattle.ottl_lists.specs.declared.lists.ErrorMode.TheVariants as modes
-use Rattle.ottl_lists.specs.Lists.{some_of, some_event_of}
+use Rattle.ottl_lists.specs.Lists.{some_of, some_event_of, trace_meets}
 
 abbrev sent : Record
 sent = record { resource = no_resource; resource_schema_url = []; scope = no_scope; scope_schema_url = []; span = plain_span None 0 1 2 }
@@ -55,3 +56,19 @@ pub events : some_event_of modes.Ignore (is_late ∷ []) sent (at 3 ∷ at 7 ∷
     Ok true ∷ Ok false ∷ Ok false ∷ Err errors.DividedByZero ∷ Ok true ∷ []
 unfolding meaning combined compared calculated
 events = refl
+
+-- one span of several suffices; an error that is told ends a trace
+abbrev started : ℕ → Arrival
+started n = record {
+  key = record { conn = 0; number = n };
+  moment = 0;
+  rec = record { resource = no_resource; resource_schema_url = []; scope = no_scope; scope_schema_url = []; span = plain_span None 0 n 9 };
+}
+
+abbrev began_late : Term
+began_late = binary two.Greater (path (record { root = roots.StartTime; keys = [] })) (whole 5)
+
+pub traces : trace_meets modes.Ignore (began_late ∷ []) [] (started 3 ∷ started 7 ∷ []) ∷ trace_meets modes.Ignore (began_late ∷ []) (said true ∷ []) (started 3 ∷ started 5 ∷ []) ∷ trace_meets modes.Ignore (said true ∷ []) [] [] ∷ trace_meets modes.Propagate (fails ∷ began_late ∷ []) [] (started 7 ∷ []) ∷ trace_meets modes.Silent (fails ∷ began_late ∷ []) [] (started 3 ∷ started 7 ∷ []) ∷ [] ≡
+    Ok true ∷ Ok false ∷ Ok false ∷ Err errors.DividedByZero ∷ Ok true ∷ []
+unfolding meaning combined compared calculated
+traces = refl
