@@ -60,7 +60,7 @@ events = refl
 -- one span of several suffices; an error that is told ends a trace
 abbrev started : ℕ → Arrival
 started n = record {
-  key = record { conn = 0; number = n };
+  key = record { conn = record { lane = 0; ordinal = 0 }; number = n };
   moment = 0;
   rec = record { resource = no_resource; resource_schema_url = []; scope = no_scope; scope_schema_url = []; span = plain_span None 0 n 9 };
 }
