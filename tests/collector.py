@@ -61,12 +61,12 @@ def comes_to(what, told, wanted):
 
 
 def tried(times, attempt):
-    """Makes an attempt, and again where it fails, so many times at most: one that a machine may spoil by standing still for a second. Of attempts that
-    fail for another reason all do."""
+    """Makes an attempt, and again where it fails, so many times at most: one that a machine may spoil by standing still for a second. Where it fails for
+    another reason, it does so each time."""
     for left in reversed(range(times)):
         try:
             return attempt()
-        except Failure:
+        except (Failure, OSError):
             if left == 0:
                 raise
 

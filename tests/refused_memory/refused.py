@@ -119,7 +119,8 @@ def replays(runs, crates):
 
 
 def send_lines(runs, program, **more):
-    """A run of four lines of a span each, also where they are sent late. Returns the status, what was printed, what was said on standard error, and how many spans the backend took."""
+    """A run of four lines of a span each, however late they are. Returns the status, what was printed, what was said on standard error, and how many spans
+    the backend took."""
     ok = [serve_export.OK]
     backend = serve_export.Backend([ok, [serve_export.answer(503)], ok, 10, ok, [serve_export.answer(400)]])
     surroundings = {"LD_PRELOAD": runs.library, "SENDER_ALONE": "1", **more}
