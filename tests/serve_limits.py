@@ -204,12 +204,12 @@ def five_soonest(collector, client, relay, first):
 
 def wakes_soon(start):
     """Ten traces, each sent after a rest in which the exporter falls asleep: what is pushed wakes it. The five soonest are in the output at once,
-    within 0.6 seconds in all, and four times what the machine takes to pass on five lines through three processes (milliseconds, where nothing else
-    runs), which a thread that sleeps 250 ms at an empty queue doesn't keep (docs/PLANTED.md). There are three tries."""
+    within half a second in all, and eight times what the machine takes to pass on five lines through three processes (milliseconds, where nothing
+    else runs), which a thread that sleeps 250 ms at an empty queue doesn't keep (docs/PLANTED.md). There are three tries."""
     collector = start("decision_wait_ms = 1\ntick_ms = 1\n" + ALL)
     client, relay, took = collector.client(), Relay(collector.printed + ".relay"), []
     try:
-        while not took or took[-1][0] > 0.6 + 4 * took[-1][1]:
+        while not took or took[-1][0] > 0.5 + 8 * took[-1][1]:
             if len(took) == 3:
                 raise Failure(f"the five soonest of ten traces that came after a rest, and of ten lines of the relay, took {took} s")
             took.append(five_soonest(collector, client, relay, 10 * len(took)))
