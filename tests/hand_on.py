@@ -120,7 +120,7 @@ def left_out(_):
 def backend_comes_late(_):
     """Nobody is there at first."""
     port, ended = free_port(), []
-    running = threading.Thread(target=lambda: ended.append(handed(LINES[0] + "\n", f"http://127.0.0.1:{port}/v1/traces")))
+    running = threading.Thread(target=lambda: ended.append(handed(LINES[0] + "\n", f"http://127.0.0.1:{port}/v1/traces")), daemon=True)
     running.start()
     time.sleep(1.5)
     want("it waits", ended, [])

@@ -324,6 +324,7 @@ def health(start):
         want(f"at {address!r}", looked(address), 1)
     for answer in (b"HTTP/1.1 503 Service Unavailable\r\n\r\n", b"HTTP/1.1 20", b""):
         with socket.create_server(("127.0.0.1", 0)) as server:
+            server.settimeout(PATIENCE)
             asking = subprocess.Popen([launcher, "--health", f"127.0.0.1:{server.getsockname()[1]}"], stdin=subprocess.DEVNULL)
             connection, _ = server.accept()
             with connection:

@@ -208,7 +208,7 @@ def many_clients(start):
     sent, problems, threads = [], [], []
     for client_number in range(16):
         arguments = (collector, client_number, 125, 25, sent, problems)
-        threads.append(threading.Thread(target=sends, args=arguments))
+        threads.append(threading.Thread(target=sends, args=arguments, daemon=True))
     for thread in threads:
         thread.start()
     for thread in threads:
@@ -257,7 +257,7 @@ def queues_of_four(start):
     rejected, problems, threads = [], [], []
     for client_number, requests in enumerate((834, 833, 833)):
         arguments = (collector, client_number, requests, rejected, problems)
-        threads.append(threading.Thread(target=sends_to_four_traces, args=arguments))
+        threads.append(threading.Thread(target=sends_to_four_traces, args=arguments, daemon=True))
     for thread in threads:
         thread.start()
     for thread in threads:
@@ -294,7 +294,7 @@ def closes_under_way(start):
         except (Failure, OSError):
             return
 
-    threads = [threading.Thread(target=go_on, args=(place,)) for place in range(6)]
+    threads = [threading.Thread(target=go_on, args=(place,), daemon=True) for place in range(6)]
     for thread in threads:
         thread.start()
     # Not a while: a machine may need it to lay out the queues.

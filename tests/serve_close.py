@@ -48,6 +48,7 @@ def answers_otherwise(start):
     """One who listens and answers otherwise, in part, or nothing before it ends the connection: it isn't said that a collector closes."""
     for answer in (b"HTTP/1.1 404 Not Found\r\n\r\n", b"HTTP/1.1 20", b""):
         with socket.create_server(("127.0.0.1", 0)) as server:
+            server.settimeout(PATIENCE)
             asked = []
 
             def serve():
@@ -59,7 +60,7 @@ def answers_otherwise(start):
                     asked.append(data)
                     connection.sendall(answer)
 
-            thread = threading.Thread(target=serve)
+            thread = threading.Thread(target=serve, daemon=True)
             thread.start()
             end = said_by(start, f'listen = "127.0.0.1:{server.getsockname()[1]}"\n' + ALL)
             thread.join()
@@ -94,7 +95,7 @@ def clients_as_it_closes(start):
         time.sleep(after)
         ends.append(end_of_a_client(collector))
 
-    threads = [threading.Thread(target=ask, args=(number * 0.0425,)) for number in range(40)]
+    threads = [threading.Thread(target=ask, args=(number * 0.0425,), daemon=True) for number in range(40)]
     for thread in threads:
         thread.start()
     time.sleep(0.2)

@@ -31,7 +31,7 @@ def side_by_side(work, arguments):
         except (Failure, OSError, ValueError, LookupError) as problem:
             problems.append(f"{problem}" if isinstance(problem, Failure) else repr(problem))
 
-    threads = [threading.Thread(target=guarded, args=(it,)) for it in arguments]
+    threads = [threading.Thread(target=guarded, args=(it,), daemon=True) for it in arguments]
     for it in threads:
         it.start()
     for it in threads:

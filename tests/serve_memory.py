@@ -99,7 +99,7 @@ def takes_again(start):
             most.append(mebibytes(collector)[0])
             time.sleep(0.02)
 
-    watcher = threading.Thread(target=looks)
+    watcher = threading.Thread(target=looks, daemon=True)
     watcher.start()
 
     def asks(at):

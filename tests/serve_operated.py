@@ -49,7 +49,7 @@ def tick_waits_for_spans(start):
             spans += 200
         time.sleep(0.02)
     kept = []
-    reading = threading.Thread(target=lambda: kept.append(open(reader, "rb").read()))
+    reading = threading.Thread(target=lambda: kept.append(open(reader, "rb").read()), daemon=True)
     reading.start()
     time.sleep(1)
     collector.ask(post(b"", "/close"))
@@ -229,7 +229,7 @@ def output_that_stalls(start):
         if not 1 <= seconds <= time.monotonic() - began + 1:
             raise Failure(f"{name} is {seconds} after {time.monotonic() - began:.1f} seconds")
     kept = []
-    reading = threading.Thread(target=lambda: kept.append(open(reader, "rb").read()))
+    reading = threading.Thread(target=lambda: kept.append(open(reader, "rb").read()), daemon=True)
     reading.start()
     comes_to("the stall once it is read", lambda: told("tsc_output_stalled_seconds"), 0)
     want("the answer", collector.ask(post(body_of([{"traceId": "1" * 32, "spanId": "3" * 16}])))[0], 200)

@@ -125,7 +125,7 @@ def moved_and_opened_anew(start):
                 time.sleep(0.001)
             client.close()
 
-        sender = threading.Thread(target=send)
+        sender = threading.Thread(target=send, daemon=True)
         sender.start()
         newest = []
         for turn in range(5):
