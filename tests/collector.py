@@ -22,7 +22,7 @@ NAMES = ["received", "handed"] + [f"dropped {reason}" for reason in range(1, 8)]
 ERRORS = 'policies = [{ name = "errors", type = "status_code", status_code = { status_codes = ["ERROR"] } }]\n'
 ALL = 'policies = [{ name = "all", type = "always_sample" }]\n'
 # So many seconds is waited for what comes at once where nothing else runs: a machine may be slow, or stand still for a while.
-PATIENCE = 180
+PATIENCE = 300
 # So many checks of a run may fail once and pass when they are made again.
 MOST_UNSTEADY = 2
 # The ports that `free_port` gave.

@@ -90,7 +90,8 @@ def sent_again(_):
 
 
 def after_as_long_as_said(_):
-    """`Retry-After` in seconds, and less than two more; without one, and where it is no number of seconds, a second. There are three tries."""
+    """`Retry-After` in seconds, and less than two more (and three times what the script takes for a line that is taken at once); without one, and where
+    it is no number of seconds, a second. There are three tries."""
     tried(3, pauses_as_said)
 
 
@@ -98,9 +99,12 @@ def pauses_as_said():
     """The same, once."""
     backend = Backend([(503, "3"), (503, None), (503, "Fri, 31 Dec 1999 23:59:59 GMT"), (503, "0")])
     want("the status", handed(LINES[0] + "\n", backend.url)[0], 0)
-    for number, (wanted, before, now) in enumerate(zip((3, 1, 1, 1), backend.at, backend.at[1:])):
-        want(f"pause {number} is {wanted} s", wanted <= now - before < wanted + 1.9, True)
     want("how many came", len(backend.at), 5)
+    began = time.monotonic()
+    want("the end of another", handed(LINES[1] + "\n", backend.url), (0, []))
+    more = 1.9 + 3 * (time.monotonic() - began)
+    for number, (wanted, before, now) in enumerate(zip((3, 1, 1, 1), backend.at, backend.at[1:])):
+        want(f"whether pause {number}, {now - before:.2f} s, is {wanted} and less than {more:.2f} more", wanted <= now - before < wanted + more, True)
     backend.end()
 
 
