@@ -95,8 +95,8 @@ class Backend:
                     return
                 body, left = left[:length], left[length:]
                 with self.lock:
-                    self.requests.append((head.decode(), body))
                     self.times.append(time.monotonic())
+                    self.requests.append((head.decode(), body))
                 if isinstance(step, float):
                     time.sleep(step)
                     step = [OK]
