@@ -58,6 +58,10 @@ value_on s (binary b x y) = together b (value_on s x) (value_on s y)
 value_on s (is_match t pattern) = value_on s t >>= searched pattern
 value_on s (substring x y z) = value_on s x >>= λ v. by_place v (value_on s y) (value_on s z)
 
+-- whether an expression is true; an error where it is neither true nor false
+abbrev pub truth_on : Subject → Term → Answer Bool
+truth_on s t = value_on s t >>= as_truth
+
 -- the same of a condition, which is neither true nor false only by an error
 abbrev pub condition_on : Subject → Term → Answer Value
 condition_on s t = value_on s t >>= as_condition

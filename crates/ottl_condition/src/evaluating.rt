@@ -1,21 +1,23 @@
 //! What a condition says of a span or of an event.
-ghost use Rattle.std.specs.Prelude.{◌≡◌, true};
+ghost use Rattle.std.specs.Prelude.{◌≡◌, true, IfSome};
 ghost use Rattle.expression.specs.Expressions.{are_known};
-ghost use Rattle.ottl_text.specs.Syntax.{term_of};
+ghost use Rattle.ottl_text.specs.Syntax.{term_of, literal, path, binary};
+ghost use Rattle.ottl_condition.specs.Comparing.{is_comparison};
 ghost use Rattle.ottl_condition.specs.Subjects.{subject_of};
 ghost use Rattle.ottl_condition.specs.Meaning as spec;
 ghost use Rattle.ottl_condition.specs.Values.{value_of, answer_of};
 
 use crate::arithmetic::calculated;
-use crate::comparing::compared;
+use crate::comparing::{compared, compares};
 use crate::conversions::part_of;
 use crate::eval_error::EvalError;
 use crate::functions::{begins, ends, made_of, searched};
+use crate::literal_comparing::path_compared;
 use crate::paths::{begun, is_root, walk};
 use crate::subject::Subject;
 use crate::value::Value;
 use expression::Searches;
-use ottl_text::{Binary, Expression};
+use ottl_text::{Binary, Expression, Literal, Path, Unary};
 
 /// Whether a condition is true of a span or of an event, or its error. The searches know its regular expressions. It takes no memory
 /// that can be refused.
@@ -29,9 +31,57 @@ pub fn evaluate(
     ensures meaning { result ≡ spec.meaning (term_of condition.now) (subject_of subject.entry) }
     ensures same { searches.new ≡ searches.old }
 {
-    match value_on(&subject, condition, searches) {
-        Ok(value) => value.truth(),
-        Err(error) => Err(error),
+    truth_on(&subject, condition, searches)
+}
+
+/// Whether an expression is true; an error where it is neither true nor false. What a path is compared with, if it is a literal, is
+/// compared in place, and no value is made of the connectives, since most conditions are made of these.
+#[tactic(auto, using(crate::proofs::Connectives::by_or, crate::proofs::Connectives::by_and, crate::proofs::Connectives::by_not, crate::proofs::Comparisons::path_beside_literal))]
+fn truth_on<'a>(
+    subject: &Subject<'a>,
+    expression: &'a Expression,
+    searches: &mut Searches,
+) -> Result<bool, EvalError>
+    requires known { are_known searches.old (spec.patterns_of (term_of expression.now)) ≡ true }
+    ensures truth { result ≡ spec.truth_on (subject_of subject.now) (term_of expression.now) }
+    ensures same { searches.new ≡ searches.old }
+{
+    match expression {
+        Expression::Binary(Binary::Or, left, right) => match truth_on(subject, left, searches) {
+            Ok(true) => Ok(true),
+            Ok(false) => truth_on(subject, right, searches),
+            Err(error) => Err(error),
+        },
+        Expression::Binary(Binary::And, left, right) => match truth_on(subject, left, searches) {
+            Ok(true) => truth_on(subject, right, searches),
+            Ok(false) => Ok(false),
+            Err(error) => Err(error),
+        },
+        Expression::Unary(Unary::Not, of) => match truth_on(subject, of, searches) {
+            Ok(truth) => Ok(!truth),
+            Err(error) => Err(error),
+        },
+        _ => match path_and_literal(expression) {
+            Some((binary, path, literal)) => path_compared(binary, subject, path, literal),
+            None => match value_on(subject, expression, searches) {
+                Ok(value) => value.truth(),
+                Err(error) => Err(error),
+            },
+        },
+    }
+}
+
+/// The operator, the path and the literal of a comparison of a path with a literal.
+fn path_and_literal(expression: &Expression) -> Option<(Binary, &Path, &Literal)>
+    ensures compares { IfSome result (λ found. is_comparison found.0 ≡ true) }
+    ensures parts { IfSome result (λ found. term_of expression.now ≡ binary found.0 (path found.1.now) (literal found.2.now)) }
+{
+    match expression {
+        Expression::Binary(binary, left, right) if compares(*binary) => match (&**left, &**right) {
+            (Expression::Path(path), Expression::Literal(literal)) => Some((*binary, path, literal)),
+            _ => None,
+        },
+        _ => None,
     }
 }
 

@@ -12,42 +12,6 @@ use expression::Searches;
 use itoa::Buffer;
 use ottl_text::Unary;
 
-fn is_text(value: &Value<'_>) -> bool
-    ensures { result ≡ spec.is_text (value_of value.now) }
-{
-    matches!(value, Value::Text(_) | Value::Digits(_))
-}
-
-fn is_int(value: &Value<'_>) -> bool
-    ensures { result ≡ spec.is_int (value_of value.now) }
-{
-    matches!(value, Value::Int(_))
-}
-
-fn is_float(value: &Value<'_>) -> bool
-    ensures { result ≡ spec.is_float (value_of value.now) }
-{
-    matches!(value, Value::Float(_))
-}
-
-fn is_bool(value: &Value<'_>) -> bool
-    ensures { result ≡ spec.is_bool (value_of value.now) }
-{
-    matches!(value, Value::Bool(_))
-}
-
-fn is_map(value: &Value<'_>) -> bool
-    ensures { result ≡ spec.is_map (value_of value.now) }
-{
-    matches!(value, Value::Map(_))
-}
-
-fn is_list(value: &Value<'_>) -> bool
-    ensures { result ≡ spec.is_list (value_of value.now) }
-{
-    matches!(value, Value::List(_))
-}
-
 /// The bytes of a text, the pairs of a map, the values of a list.
 fn length_of<'a>(value: &Value<'_>) -> Result<Value<'a>, EvalError>
     ensures { answer_of result ≡ spec.length_of (value_of value.now) }
@@ -78,12 +42,12 @@ pub(crate) fn made_of<'a>(unary: Unary, value: &Value<'a>) -> Result<Value<'a>, 
 {
     match unary {
         Unary::Not => negated(value),
-        Unary::IsString => Ok(Value::Bool(is_text(value))),
-        Unary::IsInt => Ok(Value::Bool(is_int(value))),
-        Unary::IsDouble => Ok(Value::Bool(is_float(value))),
-        Unary::IsBool => Ok(Value::Bool(is_bool(value))),
-        Unary::IsMap => Ok(Value::Bool(is_map(value))),
-        Unary::IsList => Ok(Value::Bool(is_list(value))),
+        Unary::IsString => Ok(Value::Bool(matches!(value, Value::Text(_) | Value::Digits(_)))),
+        Unary::IsInt => Ok(Value::Bool(matches!(value, Value::Int(_)))),
+        Unary::IsDouble => Ok(Value::Bool(matches!(value, Value::Float(_)))),
+        Unary::IsBool => Ok(Value::Bool(matches!(value, Value::Bool(_)))),
+        Unary::IsMap => Ok(Value::Bool(matches!(value, Value::Map(_)))),
+        Unary::IsList => Ok(Value::Bool(matches!(value, Value::List(_)))),
         Unary::Len => length_of(value),
         Unary::Int => Ok(as_int(value)),
         Unary::Double => Ok(as_float(value)),

@@ -1,6 +1,6 @@
 //! What a span and an event have, and what they were sent under.
 ghost use Rattle.std.specs.Prelude.{◌≡◌, ◌≤◌, length, IsUtf8};
-ghost use Rattle.std.specs.Option.{option_map};
+ghost use Rattle.std.specs.Option.{option_copied, option_map};
 ghost use Rattle.span_ids.specs.Id.{id_text};
 ghost use Rattle.ottl_condition.specs.Values.{value_of, answer_of, any_value};
 ghost use Rattle.ottl_condition.specs.Subjects.{subject_of};
@@ -143,6 +143,19 @@ pub(crate) fn begun<'a>(root: Root, subject: &Subject<'a>) -> Value<'a>
             Value::Int(i64::from(event.dropped_attributes_count))
         }
         _ => root_value(root, subject.sent()),
+    }
+}
+
+/// The pairs with which a path begins, if it begins with some.
+pub(crate) fn attributes_at<'a>(root: Root, subject: &Subject<'a>) -> Option<&'a [KeyValue]>
+    ensures { option_copied result ≡ spec.pairs_in (spec.begun root (subject_of subject.now)) }
+{
+    match (root, subject) {
+        (Root::Attributes, _) => Some(subject.sent().span.get().attributes.as_slice()),
+        (Root::ResourceAttributes, _) => Some(subject.sent().resource.get().attributes.as_slice()),
+        (Root::ScopeAttributes, _) => Some(subject.sent().scope.get().attributes.as_slice()),
+        (Root::EventAttributes, Subject::Event(_, event)) => Some(event.attributes.as_slice()),
+        _ => None,
     }
 }
 
