@@ -54,3 +54,12 @@ comparison_together b (Ok x) (Ok y) h = refl
 -- whether a path that is compared with a literal is true
 pub path_beside_literal : (s : Subject) (t : Term) (b : Binary) (p : Path) (l : Literal) → is_comparison b ≡ true → t ≡ binary b (path p) (literal l) → (value_on s t >>= as_truth) ≡ comparison b (walk (begun p.root s) p.keys) (Ok (literal_value l))
 path_beside_literal s t b p l h e = rw e (comparison_together b _ _ h)
+
+-- what a key finds in a map, or `nil`
+pub key_found : (v : Value) (k : List ℕ) (ps : List KeyValue) → pairs_in v ≡ Some ps → walk v (keys.Text k ∷ []) ≡ Ok (or_nil (look_up k ps))
+key_found (map qs) k ps e = let same : qs ≡ ps = cc in rw same (or_found (look_up k ps))
+  where
+    or_found : (o : Option Value) → go_on o (λ w. Ok w) ≡ Ok (or_nil o)
+    or_found None = refl
+    or_found (Some x) = refl
+key_found _ k ps e = cc

@@ -13,7 +13,7 @@ use crate::conversions::part_of;
 use crate::eval_error::EvalError;
 use crate::functions::{begins, ends, made_of, searched};
 use crate::literal_comparing::path_compared;
-use crate::paths::{begun, is_root, walk};
+use crate::paths::{is_root, path_on};
 use crate::subject::Subject;
 use crate::value::Value;
 use expression::Searches;
@@ -63,11 +63,25 @@ fn truth_on<'a>(
         },
         _ => match path_and_literal(expression) {
             Some((binary, path, literal)) => path_compared(binary, subject, path, literal),
-            None => match value_on(subject, expression, searches) {
-                Ok(value) => value.truth(),
-                Err(error) => Err(error),
-            },
+            None => value_truth(subject, expression, searches),
         },
+    }
+}
+
+/// The same, of the value that the expression has. (It stands alone, since each call of a function pays for the values that it may
+/// make.)
+fn value_truth<'a>(
+    subject: &Subject<'a>,
+    expression: &'a Expression,
+    searches: &mut Searches,
+) -> Result<bool, EvalError>
+    requires known { are_known searches.old (spec.patterns_of (term_of expression.now)) ≡ true }
+    ensures truth { result ≡ spec.truth_on (subject_of subject.now) (term_of expression.now) }
+    ensures same { searches.new ≡ searches.old }
+{
+    match &value_on(subject, expression, searches) {
+        Ok(value) => value.truth(),
+        Err(error) => Err(*error),
     }
 }
 
@@ -98,29 +112,29 @@ fn value_on<'a>(
 {
     match expression {
         Expression::Literal(literal) => Ok(Value::of_literal(literal)),
-        Expression::Path(path) => walk(&begun(path.root, subject), path.keys.as_slice()),
+        Expression::Path(path) => path_on(subject, path),
         Expression::IsRootSpan => Ok(Value::Bool(is_root(subject.sent()))),
-        Expression::Unary(unary, of) => match value_on(subject, of, searches) {
-            Ok(value) => made_of(*unary, &value),
-            Err(error) => Err(error),
+        Expression::Unary(unary, of) => match &value_on(subject, of, searches) {
+            Ok(value) => made_of(*unary, value),
+            Err(error) => Err(*error),
         },
-        Expression::Binary(binary, left, right) => match value_on(subject, left, searches) {
-            Ok(first) => beside(subject, *binary, &first, right, searches),
-            Err(of_first) => Err(of_first),
+        Expression::Binary(binary, left, right) => match &value_on(subject, left, searches) {
+            Ok(first) => beside(subject, *binary, first, right, searches),
+            Err(of_first) => Err(*of_first),
         },
-        Expression::IsMatch(of, pattern) => match value_on(subject, of, searches) {
-            Ok(value) => searched(pattern.as_str(), &value, searches),
-            Err(error) => Err(error),
+        Expression::IsMatch(of, pattern) => match &value_on(subject, of, searches) {
+            Ok(value) => searched(pattern.as_str(), value, searches),
+            Err(error) => Err(*error),
         },
-        Expression::Substring(of, start, size) => match value_on(subject, of, searches) {
-            Ok(text) => match value_on(subject, start, searches) {
-                Ok(start) => match value_on(subject, size, searches) {
-                    Ok(size) => part_of(&text, &start, &size),
-                    Err(error) => Err(error),
+        Expression::Substring(of, start, size) => match &value_on(subject, of, searches) {
+            Ok(text) => match &value_on(subject, start, searches) {
+                Ok(start) => match &value_on(subject, size, searches) {
+                    Ok(size) => part_of(text, start, size),
+                    Err(error) => Err(*error),
                 },
-                Err(error) => Err(error),
+                Err(error) => Err(*error),
             },
-            Err(error) => Err(error),
+            Err(error) => Err(*error),
         },
     }
 }
@@ -149,9 +163,9 @@ fn beside<'a>(
             Ok(false) => Ok(Value::Bool(false)),
             Err(error) => Err(error),
         },
-        _ => match value_on(subject, right, searches) {
-            Ok(second) => combined(binary, first, &second),
-            Err(error) => Err(error),
+        _ => match &value_on(subject, right, searches) {
+            Ok(second) => combined(binary, first, second),
+            Err(error) => Err(*error),
         },
     }
 }
@@ -167,12 +181,12 @@ fn condition_on<'a>(
     ensures value { answer_of result ≡ spec.condition_on (subject_of subject.now) (term_of condition.now) }
     ensures same { searches.new ≡ searches.old }
 {
-    match value_on(subject, condition, searches) {
+    match &value_on(subject, condition, searches) {
         Ok(value) => match value.truth() {
             Ok(truth) => Ok(Value::Bool(truth)),
             Err(error) => Err(error),
         },
-        Err(error) => Err(error),
+        Err(error) => Err(*error),
     }
 }
 

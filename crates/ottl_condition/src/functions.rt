@@ -25,23 +25,16 @@ fn length_of<'a>(value: &Value<'_>) -> Result<Value<'a>, EvalError>
     }
 }
 
-/// The other truth value.
-fn negated<'a>(value: &Value<'_>) -> Result<Value<'a>, EvalError>
-    ensures { answer_of result ≡ spec.negated (as_truth (value_of value.now)) }
-{
-    match value.truth() {
-        Ok(truth) => Ok(Value::Bool(!truth)),
-        Err(error) => Err(error),
-    }
-}
-
 /// What a function of one value makes of it.
 #[tactic(auto, unfolding(crate::specs::Functions::made_of))]
 pub(crate) fn made_of<'a>(unary: Unary, value: &Value<'a>) -> Result<Value<'a>, EvalError>
     ensures { answer_of result ≡ spec.made_of unary (value_of value.now) }
 {
     match unary {
-        Unary::Not => negated(value),
+        Unary::Not => match value.truth() {
+            Ok(truth) => Ok(Value::Bool(!truth)),
+            Err(error) => Err(error),
+        },
         Unary::IsString => Ok(Value::Bool(matches!(value, Value::Text(_) | Value::Digits(_)))),
         Unary::IsInt => Ok(Value::Bool(matches!(value, Value::Int(_)))),
         Unary::IsDouble => Ok(Value::Bool(matches!(value, Value::Float(_)))),

@@ -6,16 +6,17 @@ ghost use Rattle.std.specs.Cmp.Lexicographic.{slice_cmp};
 ghost use Rattle.ottl_condition.specs.Comparing as spec;
 ghost use Rattle.ottl_condition.specs.Paths as paths;
 ghost use Rattle.ottl_condition.specs.Subjects.{subject_of};
-ghost use Rattle.ottl_condition.specs.Values.{value_of, literal_value};
+ghost use Rattle.ottl_condition.specs.Values.{literal_value};
 
 use crate::comparing::{compared, holds};
 use crate::equality::pair_of;
 use crate::eval_error::EvalError;
-use crate::paths::{attributes_at, begun, walk};
+use crate::paths::{attributes_at, path_on};
 use crate::subject::Subject;
 use crate::value::Value;
 use otlp_types::{AnyValue, KeyValue};
 use ottl_text::{Binary, Key, Literal, Path};
+use std::cmp::Ordering;
 
 /// Whether a comparison holds of two texts.
 #[tactic(auto, using(crate::proofs::Comparisons::equal_texts))]
@@ -53,31 +54,34 @@ fn other_compared(binary: Binary, attribute: &KeyValue, literal: &Literal) -> bo
 }
 
 /// Whether a comparison holds of what a key finds among pairs, which may be nothing, and a literal.
+#[tactic(auto, unfolding(crate::specs::Comparing::compared))]
 fn found_compared(binary: Binary, key: &str, pairs: &[KeyValue], literal: &Literal) -> bool
     ensures { result ≡ spec.compared binary (paths.or_nil (paths.look_up key.now pairs.now)) (literal_value literal.now) }
 {
-    match pair_of(key, pairs) {
-        Some(attribute) => attribute_compared(binary, attribute, literal),
-        None => compared(binary, &Value::Nil, &Value::of_literal(literal)),
+    match (pair_of(key, pairs), literal) {
+        (Some(attribute), _) => attribute_compared(binary, attribute, literal),
+        (None, Literal::Nil) => holds(binary, Some(Ordering::Equal)),
+        (None, _) => holds(binary, None),
     }
 }
 
-/// Whether a comparison holds of what keys find in a value, one inside the other, and a literal.
-fn walked_compared(
+/// Whether a comparison holds of what a path finds and a literal, both made values.
+fn values_compared(
     binary: Binary,
-    value: &Value<'_>,
-    keys: &[Key],
+    subject: &Subject<'_>,
+    path: &Path,
     literal: &Literal,
 ) -> Result<bool, EvalError>
-    ensures { result ≡ spec.comparison binary (paths.walk (value_of value.now) keys.now) (Ok (literal_value literal.now)) }
+    ensures { result ≡ spec.comparison binary (paths.walk (paths.begun path.now.root (subject_of subject.now)) path.now.keys) (Ok (literal_value literal.now)) }
 {
-    match walk(value, keys) {
-        Ok(found) => Ok(compared(binary, &found, &Value::of_literal(literal))),
-        Err(error) => Err(error),
+    match &path_on(subject, path) {
+        Ok(found) => Ok(compared(binary, found, &Value::of_literal(literal))),
+        Err(error) => Err(*error),
     }
 }
 
 /// Whether a comparison holds of what a path finds and a literal.
+#[tactic(auto, using(crate::proofs::Comparisons::key_compared))]
 pub(crate) fn path_compared(
     binary: Binary,
     subject: &Subject<'_>,
@@ -88,6 +92,6 @@ pub(crate) fn path_compared(
 {
     match (path.keys.as_slice(), attributes_at(path.root, subject)) {
         ([Key::Text(key)], Some(pairs)) => Ok(found_compared(binary, key.as_str(), pairs, literal)),
-        (keys, _) => walked_compared(binary, &begun(path.root, subject), keys, literal),
+        _ => values_compared(binary, subject, path, literal),
     }
 }
