@@ -10,21 +10,6 @@ use ottl_text::Binary;
 use std::cmp::Ordering;
 use std::num::nearest_i64_to_f64;
 
-/// Whether an operator compares.
-pub(crate) fn compares(binary: Binary) -> bool
-    ensures { result ≡ spec.is_comparison binary }
-{
-    match binary {
-        Binary::Equal
-        | Binary::NotEqual
-        | Binary::Less
-        | Binary::AtMost
-        | Binary::Greater
-        | Binary::AtLeast => true,
-        _ => false,
-    }
-}
-
 /// Whether a comparison holds of two values in this order.
 pub(crate) fn holds(binary: Binary, order: Option<Ordering>) -> bool
     ensures { result ≡ spec.holds binary order }

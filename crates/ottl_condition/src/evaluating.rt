@@ -1,6 +1,6 @@
 //! What a condition says of a span or of an event.
 ghost use Rattle.std.specs.Prelude.{◌≡◌, true, IfSome};
-ghost use Rattle.expression.specs.Expressions.{are_known};
+ghost use Rattle.expression.specs.Expressions.{are_known, is_known};
 ghost use Rattle.ottl_text.specs.Syntax.{term_of, literal, path, binary};
 ghost use Rattle.ottl_condition.specs.Comparing.{is_comparison};
 ghost use Rattle.ottl_condition.specs.Subjects.{subject_of};
@@ -8,7 +8,7 @@ ghost use Rattle.ottl_condition.specs.Meaning as spec;
 ghost use Rattle.ottl_condition.specs.Values.{value_of, answer_of};
 
 use crate::arithmetic::calculated;
-use crate::comparing::{compared, compares};
+use crate::comparing::compared;
 use crate::conversions::part_of;
 use crate::eval_error::EvalError;
 use crate::functions::{begins, ends, made_of, searched};
@@ -61,6 +61,7 @@ fn truth_on<'a>(
             Ok(truth) => Ok(!truth),
             Err(error) => Err(error),
         },
+        Expression::IsRootSpan => Ok(is_root(subject.sent())),
         _ => match path_and_literal(expression) {
             Some((binary, path, literal)) => path_compared(binary, subject, path, literal),
             None => value_truth(subject, expression, searches),
@@ -91,8 +92,19 @@ fn path_and_literal(expression: &Expression) -> Option<(Binary, &Path, &Literal)
     ensures parts { IfSome result (λ found. term_of expression.now ≡ binary found.0 (path found.1.now) (literal found.2.now)) }
 {
     match expression {
-        Expression::Binary(binary, left, right) if compares(*binary) => match (&**left, &**right) {
-            (Expression::Path(path), Expression::Literal(literal)) => Some((*binary, path, literal)),
+        Expression::Binary(
+            binary @ (Binary::Equal
+            | Binary::NotEqual
+            | Binary::Less
+            | Binary::AtMost
+            | Binary::Greater
+            | Binary::AtLeast),
+            left,
+            right,
+        ) => match (&**left, &**right) {
+            (Expression::Path(path), Expression::Literal(literal)) => Some((
+                *binary, path, literal,
+            )),
             _ => None,
         },
         _ => None,
@@ -114,18 +126,12 @@ fn value_on<'a>(
         Expression::Literal(literal) => Ok(Value::of_literal(literal)),
         Expression::Path(path) => path_on(subject, path),
         Expression::IsRootSpan => Ok(Value::Bool(is_root(subject.sent()))),
-        Expression::Unary(unary, of) => match &value_on(subject, of, searches) {
-            Ok(value) => made_of(*unary, value),
-            Err(error) => Err(*error),
-        },
+        Expression::Unary(unary, of) => made_on(subject, *unary, of, searches),
         Expression::Binary(binary, left, right) => match &value_on(subject, left, searches) {
             Ok(first) => beside(subject, *binary, first, right, searches),
             Err(of_first) => Err(*of_first),
         },
-        Expression::IsMatch(of, pattern) => match &value_on(subject, of, searches) {
-            Ok(value) => searched(pattern.as_str(), value, searches),
-            Err(error) => Err(*error),
-        },
+        Expression::IsMatch(of, pattern) => searched_on(subject, of, pattern.as_str(), searches),
         Expression::Substring(of, start, size) => match &value_on(subject, of, searches) {
             Ok(text) => match &value_on(subject, start, searches) {
                 Ok(start) => match &value_on(subject, size, searches) {
@@ -136,6 +142,43 @@ fn value_on<'a>(
             },
             Err(error) => Err(*error),
         },
+    }
+}
+
+/// What a function of one value makes of that of an expression.
+#[cycle(value)]
+fn made_on<'a>(
+    subject: &Subject<'a>,
+    unary: Unary,
+    of: &'a Expression,
+    searches: &mut Searches,
+) -> Result<Value<'a>, EvalError>
+    requires known { are_known searches.old (spec.patterns_of (term_of of.now)) ≡ true }
+    ensures value { answer_of result ≡ spec.made_on unary (spec.value_on (subject_of subject.now) (term_of of.now)) }
+    ensures same { searches.new ≡ searches.old }
+{
+    match &value_on(subject, of, searches) {
+        Ok(value) => made_of(unary, value),
+        Err(error) => Err(*error),
+    }
+}
+
+/// Whether a regular expression has a match in the value of an expression.
+#[cycle(value)]
+fn searched_on<'a>(
+    subject: &Subject<'a>,
+    of: &'a Expression,
+    pattern: &str,
+    searches: &mut Searches,
+) -> Result<Value<'a>, EvalError>
+    requires known { are_known searches.old (spec.patterns_of (term_of of.now)) ≡ true }
+    requires pattern { is_known searches.old pattern.now ≡ true }
+    ensures value { answer_of result ≡ spec.searched_on pattern.now (spec.value_on (subject_of subject.now) (term_of of.now)) }
+    ensures same { searches.new ≡ searches.old }
+{
+    match &value_on(subject, of, searches) {
+        Ok(value) => searched(pattern, value, searches),
+        Err(error) => Err(*error),
     }
 }
 

@@ -18,6 +18,7 @@ use span_ids::{SpanId, TraceId};
 
 /// The digits of no id of a span, and of a trace.
 const NO_SPAN: &str = "0000000000000000";
+
 const NO_TRACE: &str = "00000000000000000000000000000000";
 
 /// A kind's name; other numbers have none.
