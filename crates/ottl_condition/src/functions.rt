@@ -3,7 +3,7 @@ ghost use Rattle.std.specs.Prelude.{◌≡◌, true};
 ghost use Rattle.std.specs.Fmt.{signed_decimal};
 ghost use Rattle.expression.specs.Expressions.{is_known, is_match};
 ghost use Rattle.ottl_condition.specs.Functions as spec;
-ghost use Rattle.ottl_condition.specs.Values.{value_of, answer_of, as_truth};
+ghost use Rattle.ottl_condition.specs.Values.{value_of, answer_of};
 
 use crate::conversions::{as_duration, as_float, as_int, as_text, truth_text};
 use crate::eval_error::EvalError;

@@ -2,7 +2,7 @@
 ghost use Rattle.std.specs.Prelude.{◌≡◌, ◌≤◌, length, IsUtf8};
 ghost use Rattle.std.specs.Option.{option_copied, option_map};
 ghost use Rattle.span_ids.specs.Id.{id_text};
-ghost use Rattle.ottl_condition.specs.Values.{value_of, answer_of, any_value};
+ghost use Rattle.ottl_condition.specs.Values.{value_of, answer_of};
 ghost use Rattle.ottl_condition.specs.Subjects.{subject_of};
 ghost use Rattle.ottl_condition.specs.Paths as spec;
 
