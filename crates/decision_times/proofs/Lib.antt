@@ -1,0 +1,5 @@
+pub mod Early
+pub mod Late
+pub mod Stopping
+mod Rows
+pub mod Waiting
