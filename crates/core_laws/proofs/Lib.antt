@@ -1,0 +1,6 @@
+pub mod Multisets
+pub mod Sums
+pub mod Out
+pub mod Against
+pub mod Bounds
+mod Rows
