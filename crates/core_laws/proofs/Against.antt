@@ -1,18 +1,15 @@
 -- Where the policies sample all spans, none is counted as not sampled.
 -- For the law `always_sample_drops_none`.
-use Rattle.std.proofs.Common.{◌≡◌, ℕ, zero, suc, ◌<◌, ◌==◌, Bool, true, false, not, ◌&&◌, ◌||◌, nat_lt, cond, List, [], ◌∷◌, ◌++◌, length, reverse, map, filter, find, slice_get, Option, Some, None, refl, sym, ap, subst, ◌∙◌, arith}
-use Rattle.std.specs.Option.{option_map}
-use Rattle.span_size.specs.Size.{size_of}
+use Rattle.std.proofs.Common.{◌≡◌, ℕ, zero, suc, ◌==◌, Bool, true, false, ◌||◌, nat_lt, List, [], ◌∷◌, ◌++◌, reverse, find, slice_get, Option, Some, None, refl, sym, ap, subst, ◌∙◌}
 use Rattle.otlp_types.specs.declared.arrival.Arrival.{Arrival}
 use Rattle.otlp_types.specs.declared.span.Ids.{Ids}
-use Rattle.policy_eval.specs.Given.{verdict_given}
 use Rattle.span_ids.specs.declared.outcome.Verdict.{Verdict}
 use Rattle.span_ids.specs.declared.outcome.Verdict.TheVariants.{Sampled, NotSampled}
 use Rattle.span_ids.specs.declared.outcome.Reason.{Reason}
 use Rattle.span_ids.specs.declared.outcome.Reason.TheVariants.{InvalidId, QueueFull, NoMemory, Evicted, NotSampled as DecidedAgainst, LateNotSampled, ExporterDown}
-use Rattle.journal_theory.specs.Journal.{Settings, Journal, Entry, Opening, Decision, Notes, Finding, joins, meets, opens, finding, leaving, decided_as, spans_since, policies_for, decision, decisions_in_turn, decisions_now, due_at, after_item, notes}
-use Rattle.journal_theory.specs.Fate.{DroppedSpan, Effect, counts, is_same_reason, under, effect_of_verdict, effect_of_leaving, effect_of_leaving_decided, effect_of_finding, effect_of_span, effect_of_decision}
-use Rattle.world_theory.specs.World.{CoreConfig, CoreLane, CoreShard, World, new_world, settings}
+use Rattle.journal_theory.specs.Journal.{Settings, Journal, Opening, Decision, Notes, Finding, joins, meets, opens, finding, leaving, decided_as, spans_since, policies_for, decisions_in_turn, decisions_now, due_at, after_item, notes}
+use Rattle.journal_theory.specs.Fate.{DroppedSpan, counts, is_same_reason, under, effect_of_verdict, effect_of_leaving, effect_of_leaving_decided, effect_of_finding, effect_of_span}
+use Rattle.world_theory.specs.World.{CoreConfig, World, settings}
 use Rattle.world_theory.specs.Step.{drop_batch_applies}
 use Rattle.world_theory.specs.Headline.{OfEachRun}
 use Rattle.journal_theory.proofs.Notes.{HasRoom, Meeting, it_joins, it_meets, it_opens, meeting}
@@ -21,7 +18,6 @@ use Rattle.journal_theory.proofs.ListFacts.{Each, Each-append, Each-weaker, Each
 use Rattle.journal_theory.proofs.Sound.{sound_notes}
 use Rattle.world_theory.proofs.Decided.{same_decisions}
 use Rattle.world_theory.proofs.Steps.{Stepped, received_by, routed, refused_by, took_span, took_tick, closed_by, took_end, answered_by, decided_one, shipped, pulled, handed_over, failed, batch_dropped, map_some}
-use Rattle.world_theory.proofs.Balance.{same_settings}
 use Rattle.world_theory.proofs.OnePlace.{of_each_run}
 use Rattle.core_laws.specs.Sampled.{SamplesAll, NoneAgainst, AlwaysSampleSamplesAll}
 

@@ -1,20 +1,19 @@
 -- What waits in a shard has a bound.
 -- For the law `waiting_is_bounded`.
-use Rattle.std.proofs.Common.{◌≡◌, ℕ, zero, suc, ◌+◌, ◌*◌, ◌<◌, ◌≤◌, Bool, true, false, cond, List, [], ◌∷◌, ◌++◌, length, reverse, take, filter, slice_get, Option, Some, None, refl, sym, ap, subst, ◌∙◌, arith}
+use Rattle.std.proofs.Common.{◌≡◌, ℕ, ◌*◌, ◌≤◌, Bool, true, false, cond, List, [], ◌∷◌, length, take, filter, Option, Some, refl, ap, arith}
 use Rattle.std.specs.List.{sum_by}
 use Rattle.std.proofs.lemmas.List.{length-reverse, length-take}
 use Rattle.std.proofs.lemmas.List.Sums.{sum_by-cons}
 use Rattle.std.proofs.Math.Nat.{mul-le-mul_left}
 use Rattle.span_size.specs.Size.{size_of}
-use Rattle.journal_theory.specs.Journal.{Settings, Journal, Opening, Notes, last_of, in_buffer, undecided, notes, notes_dealt, spans_since}
-use Rattle.world_theory.specs.World.{CoreConfig, CoreShard, World, settings, has_due}
+use Rattle.journal_theory.specs.Journal.{Settings, Opening, Notes, last_of, in_buffer, undecided, notes, notes_dealt, spans_since}
+use Rattle.world_theory.specs.World.{settings}
 use Rattle.world_theory.specs.Headline.{OfEachRun}
 use Rattle.journal_theory.proofs.Notes.{is_open}
 use Rattle.journal_theory.proofs.ListFacts.{Each, Split, Split-cons}
 use Rattle.world_theory.proofs.Single.{split_contains}
-use Rattle.world_theory.proofs.Dealing.{Split-each}
 use Rattle.decision_times.proofs.Stopping.{never_too_late}
-use Rattle.core_laws.specs.Bounds.{WaitingTracesAreFew, waiting_bytes, WaitingBytesAreFew}
+use Rattle.core_laws.specs.Bounds.{WaitingTracesAreFew, WaitingBytesAreFew}
 
 -- a filter leaves no more
 fewer : {X : Type 0} (p : X → Bool) (xs : List X) → length (filter p xs) ≤ length xs

@@ -1,19 +1,17 @@
 -- In a closed world what was released is out.
 -- For the law `sampled_comes_out`.
-use Rattle.std.proofs.Common.{◌≡◌, ℕ, zero, suc, ◌<◌, Bool, true, false, not, ◌&&◌, ◌||◌, cond, List, [], ◌∷◌, ◌++◌, length, reverse, map, filter, slice_get, Option, Some, None, ◌⊎◌, inl, inr, refl, sym, ap, subst, ◌∙◌, arith}
-use Rattle.std.specs.Prelude.{IsTrue, Contains}
+use Rattle.std.proofs.Common.{◌≡◌, ℕ, suc, Bool, true, false, ◌&&◌, ◌||◌, cond, List, [], ◌∷◌, ◌++◌, length, reverse, map, filter, slice_get, Some, inl, inr, refl, sym, ap, subst, ◌∙◌}
 use Rattle.std.specs.List.{list_any}
 use Rattle.otlp_types.specs.declared.arrival.Arrival.{Arrival}
 use Rattle.span_ids.specs.declared.keys.ArrivalKey.{ArrivalKey}
 use Rattle.span_ids.specs.declared.outcome.Verdict.{Verdict}
 use Rattle.span_ids.specs.declared.outcome.Verdict.TheVariants.{Sampled}
-use Rattle.span_ids.specs.declared.outcome.Reason.{Reason}
 use Rattle.span_ids.specs.declared.outcome.Reason.TheVariants.{InvalidId, QueueFull, NoMemory, Evicted, NotSampled, LateNotSampled, ExporterDown}
-use Rattle.journal_theory.specs.Journal.{Settings, Journal, Entry, Decision, Notes, notes, decisions_now, after_item}
-use Rattle.journal_theory.specs.Fate.{Fate, is_released, effect_of_decision, effect_of_verdict}
+use Rattle.journal_theory.specs.Journal.{Settings, Journal, Decision, notes, decisions_now, after_item}
+use Rattle.journal_theory.specs.Fate.{Fate, is_released, effect_of_verdict}
 use Rattle.world_theory.specs.World.{CoreConfig, CoreLane, CoreShard, World, settings, has_due, same_key}
 use Rattle.world_theory.specs.Places.{Place, is_waiting, unrouted, queued, buffered, unshipped, exported, in_batch, handed, counted_under, HeldKey, held, places, IsClosed}
-use Rattle.world_theory.specs.Headline.{OfEachRun, TakenSpan, fate_of, HasCause, WasReceived, is_received, is_where, is_past_release, PlaceFitsFate, CountedWithCause, MeetsRemembered, InOnePlace, HoldsOf}
+use Rattle.world_theory.specs.Headline.{OfEachRun, TakenSpan, fate_of, WasReceived, is_received, is_where, is_past_release, HoldsOf}
 use Rattle.world_theory.proofs.Parts.{headline}
 use Rattle.journal_theory.proofs.Notes.{HasRoom}
 use Rattle.journal_theory.proofs.ListFacts.{Each, Each-append, Each-weaker, Each-reverse, Each-split, Split}

@@ -6,7 +6,7 @@ use Rattle.span_ids.specs.declared.outcome.Reason.TheVariants.{InvalidId, QueueF
 use Rattle.journal_theory.specs.Journal.{notes}
 use Rattle.journal_theory.specs.Fate.{counts}
 use Rattle.world_theory.specs.World.{CoreConfig, World}
-use Rattle.world_theory.specs.Step.{Step, receive, route, take, tick, decide, ship, pull, hand, close, end, run}
+use Rattle.world_theory.specs.Step.{Step, receive, route, take, tick, decide, ship, pull, hand, run}
 use Rattle.world_theory.specs.Places.{waiting}
 use Rattle.world_theory.specs.Headline.{handed_spans}
 use Rattle.world_theory.proofs.Samples.{always, configured, plain}

@@ -1,6 +1,6 @@
 -- As many spans are received as have a place.
 -- For the law `counts_add_up`.
-use Rattle.std.proofs.Common.{◌≡◌, ℕ, suc, ◌+◌, Bool, true, false, not, cond, List, [], ◌∷◌, ◌++◌, length, map, filter, flat_map, length-append, refl, sym, ap, subst, ◌∙◌, arith}
+use Rattle.std.proofs.Common.{◌≡◌, ℕ, suc, ◌+◌, Bool, true, false, not, cond, List, [], ◌∷◌, length, map, flat_map, length-append, refl, sym, ap, ◌∙◌, arith}
 use Rattle.std.specs.List.{sum_by}
 use Rattle.otlp_types.specs.declared.arrival.Arrival.{Arrival}
 use Rattle.span_ids.specs.declared.keys.ArrivalKey.{ArrivalKey}
@@ -9,16 +9,15 @@ use Rattle.span_ids.specs.declared.outcome.Reason.TheVariants.{InvalidId, QueueF
 use Rattle.journal_theory.specs.Journal.{Settings}
 use Rattle.journal_theory.specs.Fate.{DroppedSpan, under}
 use Rattle.world_theory.specs.World.{CoreConfig, CoreLane, CoreShard, World, settings, same_key}
-use Rattle.world_theory.specs.Places.{Place, is_waiting, unrouted, queued, buffered, unshipped, exported, in_batch, handed, counted_under, HeldKey, held_at, buffered_spans, held_by_lanes, held_by_shard, held_by_shards, held, waiting, IsClosed}
+use Rattle.world_theory.specs.Places.{Place, is_waiting, unrouted, queued, buffered, unshipped, exported, in_batch, handed, counted_under, HeldKey, held_at, buffered_spans, held_by_lanes, held_by_shard, held_by_shards, held, waiting}
 use Rattle.world_theory.specs.Headline.{OfEachRun, handed_spans}
-use Rattle.journal_theory.proofs.ListFacts.{tally, tally-append, tally-map, total, length_filter}
+use Rattle.journal_theory.proofs.ListFacts.{tally, tally-append, tally-map, length_filter}
 use Rattle.journal_theory.proofs.Counted.{under_append}
-use Rattle.journal_theory.proofs.Notes.{HasRoom}
-use Rattle.world_theory.proofs.Balance.{occ, amount, got, held_amount}
+use Rattle.world_theory.proofs.Balance.{held_amount}
 use Rattle.world_theory.proofs.OnePlace.{Accounted, accounted_new, accounted_step, of_each_run}
 use Rattle.world_theory.proofs.Single.{occ_all}
-use Rattle.core_laws.specs.Sums.{reasons, received_spans, counted_under_reason, AddsUp, AddsUpClosed}
-use Rattle.core_laws.proofs.Multisets.{often, same_length}
+use Rattle.core_laws.specs.Sums.{reasons, received_spans, AddsUp, AddsUpClosed}
+use Rattle.core_laws.proofs.Multisets.{same_length}
 
 -- ---- as many are held as were received
 

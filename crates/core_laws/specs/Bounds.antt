@@ -1,5 +1,5 @@
 -- How much waits in a shard at most.
-use Rattle.std.specs.Prelude.{◌≡◌, ◌≤◌, ◌<◌, ◌*◌, ℕ, false, List, length, Some, slice_get}
+use Rattle.std.specs.Prelude.{◌≡◌, ◌≤◌, ◌<◌, ◌*◌, ℕ, false, length, Some, slice_get}
 use Rattle.std.specs.List.{sum_by}
 use Rattle.span_size.specs.Size.{size_of}
 use Rattle.journal_theory.specs.Journal.{Journal, Opening, Settings, notes, notes_dealt, undecided, spans_since}

@@ -1,6 +1,6 @@
 -- Each decision has its cause, in every journal.
 -- For the law `never_too_early`.
-use Rattle.std.proofs.Common.{◌≡◌, ℕ, ◌+◌, ◌<◌, ◌≤◌, nat_lt, nat_le, Bool, true, false, ◌&&◌, ◌||◌, not, cond, List, [], ◌∷◌, ◌++◌, length, reverse, take, drop, slice_get, Option, Some, None, refl, sym, ap, subst, ◌∙◌, arith, take-append-drop}
+use Rattle.std.proofs.Common.{◌≡◌, ℕ, ◌+◌, ◌<◌, ◌≤◌, nat_lt, nat_le, Bool, true, false, ◌&&◌, ◌||◌, not, cond, [], ◌∷◌, length, Option, Some, None, refl, ap, arith}
 use Rattle.std.specs.List.{list_any}
 use Rattle.std.proofs.lemmas.Bool.{and_parts, not-true}
 use Rattle.std.proofs.lemmas.Bool.Decides.{nat_tests}
@@ -8,13 +8,11 @@ use Rattle.otlp_types.specs.declared.span.Ids.{Ids}
 use Rattle.otlp_types.specs.declared.arrival.Arrival.{Arrival}
 use Rattle.otlp_types.specs.declared.arrival.Item.{Item}
 use Rattle.otlp_types.specs.declared.arrival.Item.TheVariants.{Span, Tick, End}
-use Rattle.span_ids.specs.declared.ids.TraceId.{TraceId}
 use Rattle.span_size.specs.Size.{size_of}
-use Rattle.journal_theory.specs.Journal.{Settings, Journal, Entry, Opening, Decision, Notes, Finding, joins, meets, opens, finding, clock, is_of_trace, is_root, item_spans, is_root_past, is_oversized, is_due, spans_since, have_ended, has_finished, due_at, due_now, undecided, oversized, decision, decisions_in_turn, decisions_at, decisions_now, after_finding, after_span, after_item, after_decisions, notes, notes_dealt}
-use Rattle.journal_theory.proofs.ListFacts.{Each, Each-append, Each-left, Each-all, Each-both, Each-weaker, Each-reverse, Each-filter, Each-passes, Each-split}
-use Rattle.journal_theory.proofs.Sound.{Each-undecided, Each-due, Each-buffer}
-use Rattle.world_theory.proofs.Decided.{same_decisions}
-use Rattle.decision_times.specs.Times.{WasOpened, HasRoot, Cause, has_waited, root_has_waited, is_big, is_last, WasInTime}
+use Rattle.journal_theory.specs.Journal.{Settings, Journal, Entry, Opening, Notes, Finding, joins, meets, opens, finding, clock, is_of_trace, is_root, item_spans, is_root_past, is_oversized, is_due, spans_since, have_ended, has_finished, due_at, undecided, oversized, after_finding, after_span, after_item, notes}
+use Rattle.journal_theory.proofs.ListFacts.{Each, Each-all, Each-weaker, Each-passes}
+use Rattle.journal_theory.proofs.Sound.{Each-due, Each-buffer}
+use Rattle.decision_times.specs.Times.{WasOpened, HasRoot, Cause, has_waited, root_has_waited, is_big, is_last}
 
 -- ---- openings
 
@@ -138,43 +136,13 @@ due_causes s e J (End sender) is noted = go (has_finished s e J) refl
         Each-all (Cause s e J) (undecided s noted) (λ o. is_last (not-true (have_ended J s.senders) p.1) p.0)
     go false h = Each-weaker (λ (o : Opening). is_oversized s (e ∷ J) o ≡ true) (Cause s e J) (oversized s (e ∷ J) noted) (big_cause s e J) (Each-passes (is_oversized s (e ∷ J)) (undecided s noted))
 
--- ---- decisions
+-- ---- what holds right after an item
 
-in_time : (s : Settings) (e : Entry) (J : Journal) (os : List Opening) (given : List (List Bool)) → Each (WasOpened (e ∷ J)) os → Each (Cause s e J) os → Each (WasInTime s (e ∷ J)) (decisions_in_turn s (e ∷ J) os given)
-in_time s e J [] given h k = tt
-in_time s e J (o ∷ os) [] h k = tt
-in_time s e J (o ∷ os) (a ∷ given) h k = (record { later = []; item = e; before = J; split = refl; opened = h.0; cause = k.0; spans = refl }, in_time s e J os given h.1 k.1)
-
--- the decisions at an item
-pub now_in_time : (s : Settings) (e : Entry) (J : Journal) → Each (WasInTime s (e ∷ J)) (decisions_now s (e ∷ J))
-now_in_time s e J =
+-- each opening so far is that of a span, and what is due has a cause
+pub due_opened : (s : Settings) (e : Entry) (J : Journal) → Each (WasOpened (e ∷ J)) (due_at s e J e.item (after_item s e J e.item (notes s J)))
+due_opened s e J =
     let noted = after_item s e J e.item (notes s J) in
-    in_time s e J (due_at s e J e.item noted) e.answers
-    (Each-due (WasOpened (e ∷ J)) s e J e.item noted (Each-buffer (WasOpened (e ∷ J)) s noted (opened_at s e J)))
-    (due_causes s e J e.item refl noted)
+    Each-due (WasOpened (e ∷ J)) s e J e.item noted (Each-buffer (WasOpened (e ∷ J)) s noted (opened_at s e J))
 
-in_time_more : (s : Settings) (e : Entry) (J : Journal) (d : Decision) → WasInTime s J d → WasInTime s (e ∷ J) d
-in_time_more s e J d h = record { later = e ∷ h.later; item = h.item; before = h.before; split = ap (λ (z : Journal). e ∷ z) h.split; opened = h.opened; cause = h.cause; spans = h.spans }
-
--- all decisions before an item, by the notes after it
-before_in_time : (s : Settings) (e : Entry) (J : Journal) → Each (WasInTime s J) (notes s J).decisions → Each (WasInTime s (e ∷ J)) (after_item s e J e.item (notes s J)).decisions
-before_in_time s e J h =
-    subst (λ (ds : List Decision). Each (WasInTime s (e ∷ J)) ds) (sym (same_decisions s e J e.item (notes s J)))
-    (Each-weaker (WasInTime s J) (WasInTime s (e ∷ J)) (notes s J).decisions (in_time_more s e J) h)
-
-pub all_in_time : (s : Settings) (J : Journal) → Each (WasInTime s J) (notes s J).decisions
-unfolding notes
-all_in_time s [] = tt
-all_in_time s (e ∷ J) =
-    Each-append (WasInTime s (e ∷ J)) (reverse (decisions_now s (e ∷ J))) (after_item s e J e.item (notes s J)).decisions
-    (Each-reverse (WasInTime s (e ∷ J)) (decisions_now s (e ∷ J)) (now_in_time s e J)) (before_in_time s e J (all_in_time s J))
-
--- where only the first decisions at the last item were dealt with
-pub dealt_in_time : (s : Settings) (J : Journal) (dealt : ℕ) → Each (WasInTime s J) (notes_dealt s J dealt).decisions
-dealt_in_time s [] dealt = tt
-dealt_in_time s (e ∷ J) dealt =
-    let ds = decisions_now s (e ∷ J) in
-    Each-append (WasInTime s (e ∷ J)) (reverse (take dealt ds)) (after_item s e J e.item (notes s J)).decisions
-    (Each-reverse (WasInTime s (e ∷ J)) (take dealt ds) (Each-left (WasInTime s (e ∷ J)) (take dealt ds) (drop dealt ds)
-    (subst (λ (z : List Decision). Each (WasInTime s (e ∷ J)) z) (sym (take-append-drop dealt ds)) (now_in_time s e J))))
-    (before_in_time s e J (all_in_time s J))
+pub due_caused : (s : Settings) (e : Entry) (J : Journal) → Each (Cause s e J) (due_at s e J e.item (after_item s e J e.item (notes s J)))
+due_caused s e J = due_causes s e J e.item refl (after_item s e J e.item (notes s J))

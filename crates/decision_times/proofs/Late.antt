@@ -1,18 +1,18 @@
 -- Where nothing is left to decide, each undecided trace has its time to come.
 -- For the law `never_too_late`.
-use Rattle.std.proofs.Common.{◌≡◌, ℕ, ◌+◌, ◌<◌, ◌≤◌, nat_lt, nat_le, Bool, true, false, ◌&&◌, ◌||◌, not, cond, List, [], ◌∷◌, ◌++◌, length, reverse, filter, drop, Option, Some, None, refl, sym, ap, subst, ◌∙◌, arith, append_assoc, le-leb}
+use Rattle.std.proofs.Common.{◌≡◌, ℕ, ◌+◌, ◌<◌, ◌≤◌, nat_lt, nat_le, Bool, true, false, ◌&&◌, ◌||◌, List, [], ◌∷◌, ◌++◌, length, reverse, filter, take, drop, refl, sym, ap, subst, ◌∙◌, arith, append_assoc, le-leb}
 use Rattle.std.specs.List.{list_any}
-use Rattle.std.proofs.lemmas.List.{reverse-append}
+use Rattle.std.proofs.lemmas.List.{reverse-append, reverse-reverse}
 use Rattle.std.proofs.lemmas.Bool.Decides.{nat_tests}
 use Rattle.trace_buffer.specs.Buffer.{is_root_due}
 use Rattle.otlp_types.specs.declared.arrival.Arrival.{Arrival}
 use Rattle.otlp_types.specs.declared.arrival.Item.{Item}
 use Rattle.otlp_types.specs.declared.arrival.Item.TheVariants.{Span}
 use Rattle.span_size.specs.Size.{size_of}
-use Rattle.journal_theory.specs.Journal.{Settings, Journal, Entry, Opening, Notes, StoppedInTime, IsAnsweredUpTo, clock, is_of_trace, is_root, item_spans, is_root_past, is_oversized, spans_since, have_ended, due_now, undecided, in_buffer, no_notes, notes, notes_dealt}
+use Rattle.journal_theory.specs.Journal.{Settings, Journal, Entry, Opening, Notes, StoppedInTime, IsAnswered, IsAnsweredUpTo, are_each_answered, clock, is_of_trace, is_root, item_spans, is_root_past, is_oversized, spans_since, have_ended, due_now, undecided, in_buffer, no_notes, notes}
 use Rattle.journal_theory.specs.Standing.{mark, first_root_since}
-use Rattle.journal_theory.proofs.ListFacts.{Each, Each-split, Each-weaker, Split}
-use Rattle.journal_theory.proofs.Lists.{Each-from_none}
+use Rattle.journal_theory.proofs.ListFacts.{Each, Each-split, Each-weaker, Each-reverse, Split}
+use Rattle.journal_theory.proofs.Lists.{Each-from_none, drop-length}
 use Rattle.journal_theory.proofs.RootWait.{due_by_first_root}
 use Rattle.journal_theory.proofs.Notes.{HasRoom, is_open}
 use Rattle.journal_theory.proofs.Sound.{last_of_nil}
@@ -73,6 +73,10 @@ le-not m n h = grind (arith, nat_tests)
 lt-test : (m n : ℕ) → m < n → nat_lt m n ≡ true
 lt-test m n h = grind (arith, nat_tests)
 
+taken_whole : (os : List Opening) → take (length os) os ≡ os
+taken_whole [] = refl
+taken_whole (o ∷ os) = ap (λ ps. o ∷ ps) (taken_whole os)
+
 module _ (s : Settings) (room : HasRoom s.num_traces) where
   -- an open episode that isn't due has its time to come
   has_time : (J : Journal) (noted : Notes) (o : Opening) → is_open noted o ≡ true → open_due s room J noted o ≡ false → HasTime s J o
@@ -98,6 +102,19 @@ module _ (s : Settings) (room : HasRoom s.num_traces) where
       let end : filter (open_due s room (e ∷ J) (notes s (e ∷ J))) (front s room (item_notes s room e J)) ≡ [] =
       (let Q = λ (n : Notes). filter (open_due s room (e ∷ J) n) (front s room (item_notes s room e J)) ≡ [] in subst Q dealt (left ∙ none)) in
       Each-from_none (open_due s room (e ∷ J) (notes s (e ∷ J))) (front s room (item_notes s room e J)) end
+
+  -- so each that is open in the buffer has its time to come, where all was decided
+  pub open_have_time : (J : Journal) → 0 < s.decision_wait → StoppedInTime s J → IsAnswered s J → Each (λ (o : Opening). is_open (notes s J) o ≡ true → HasTime s J o) (in_buffer s (notes s J))
+  unfolding notes
+  open_have_time [] w h given = subst (λ (os : List Opening). Each (λ (o : Opening). is_open no_notes o ≡ true → HasTime s [] o) os) (sym (last_of_nil s.num_traces)) tt
+  open_have_time (e ∷ J) w h given =
+      let os = due_now s (e ∷ J) in
+      let all : IsAnsweredUpTo s (e ∷ J) (length os) = (ap (λ (ps : List Opening). are_each_answered s (e ∷ J) ps e.answers) (taken_whole os) ∙ given.0, given.1) in
+      let due = none_due e J (length os) w h all (drop-length os) in
+      let back = Each-reverse (λ (o : Opening). open_due s room (e ∷ J) (notes s (e ∷ J)) o ≡ false) (reverse (in_buffer s (notes s (e ∷ J)))) due in
+      Each-weaker (λ (o : Opening). open_due s room (e ∷ J) (notes s (e ∷ J)) o ≡ false) (λ (o : Opening). is_open (notes s (e ∷ J)) o ≡ true → HasTime s (e ∷ J) o) (in_buffer s (notes s (e ∷ J)))
+      (λ o none stands. has_time (e ∷ J) (notes s (e ∷ J)) o stands none)
+      (subst (λ (os : List Opening). Each (λ (o : Opening). open_due s room (e ∷ J) (notes s (e ∷ J)) o ≡ false) os) (reverse-reverse (in_buffer s (notes s (e ∷ J)))) back)
 
   -- so each undecided one has its time to come
   pub undecided_have_time : (J : Journal) (k : ℕ) → 0 < s.decision_wait → StoppedInTime s J → IsAnsweredUpTo s J k → drop k (due_now s J) ≡ [] → Each (HasTime s J) (undecided s (notes s J))

@@ -3,12 +3,11 @@
 use Rattle.std.specs.Prelude.{ℕ, false, List, [], ◌∷◌, map, length, Option, Some, None, ◌≡◌, refl}
 use Rattle.otlp_types.proofs.Samples.{plain_record}
 use Rattle.otlp_types.specs.declared.span.Ids.{Ids}
-use Rattle.otlp_types.specs.declared.arrival.Arrival.{Arrival}
 use Rattle.otlp_types.specs.declared.arrival.Item.{Item}
 use Rattle.otlp_types.specs.declared.arrival.Item.TheVariants.{Span, Tick, End}
-use Rattle.policy_tree.specs.Tree.{Policies, no_more, one_more, leaf}
+use Rattle.policy_tree.specs.Tree.{no_more, one_more, leaf}
 use Rattle.policy_tree.specs.declared.policy.Leaf.TheVariants.{AlwaysSample}
-use Rattle.journal_theory.specs.Journal.{Settings, Journal, Entry, Opening, clock, notes, due_now}
+use Rattle.journal_theory.specs.Journal.{Settings, Journal, Entry, clock, notes, due_now}
 use Rattle.journal_theory.specs.Standing.{mark}
 
 abbrev took : Item → Entry

@@ -1,30 +1,29 @@
 -- What holds of every run of the core: no shard takes an item after all Ends. And so the laws of runs.
 -- For the laws `nothing_after_all_ends`, `never_too_late` and `never_too_early`.
-use Rattle.std.proofs.Common.{◌≡◌, ℕ, zero, suc, ◌+◌, ◌<◌, ◌≤◌, ◌==◌, nat_lt, Bool, true, false, ◌&&◌, ◌||◌, List, [], ◌∷◌, ◌++◌, length, drop, replicate, slice_get, slice_set, Option, Some, None, refl, sym, ap, subst, ◌∙◌, arith, eqb-true, eq-eqb}
-use Rattle.std.specs.Prelude.{Contains}
+use Rattle.std.proofs.Common.{◌≡◌, ℕ, zero, suc, ◌+◌, ◌<◌, ◌≤◌, ◌==◌, Bool, true, false, List, [], ◌∷◌, ◌++◌, length, drop, slice_get, slice_set, Option, Some, None, refl, sym, ap, subst, ◌∙◌, arith, eqb-true, eq-eqb}
 use Rattle.std.specs.List.{list_any}
 use Rattle.std.proofs.lemmas.Bool.{and_parts}
 use Rattle.std.proofs.lemmas.Bool.Decides.{nat_tests}
-use Rattle.journal_theory.specs.Journal.{Settings, Journal, Entry, Opening, Decision, StoppedInTime, answered, has_ended, have_ended, due_now, notes, notes_dealt, undecided}
+use Rattle.journal_theory.specs.Journal.{Settings, Journal, Opening, StoppedInTime, answered, has_ended, have_ended, due_now, notes, notes_dealt, undecided}
 use Rattle.otlp_types.specs.declared.arrival.Arrival.{Arrival}
-use Rattle.world_theory.specs.World.{CoreConfig, CoreLane, CoreShard, World, new_world, new_shard, settings, has_due, ticker}
+use Rattle.world_theory.specs.World.{CoreConfig, CoreLane, CoreShard, World, new_world, new_shard, settings, ticker}
 use Rattle.world_theory.specs.Step.{sender_is_done}
 use Rattle.world_theory.specs.Headline.{OfEachRun}
 use Rattle.journal_theory.proofs.Notes.{HasRoom}
-use Rattle.journal_theory.proofs.ListFacts.{Each, Each-append, Each-right, Each-split, length-slice_set}
-use Rattle.world_theory.proofs.Steps.{Stepped, received_by, routed, refused_by, took_span, took_tick, closed_by, took_end, answered_by, decided_one, shipped, pulled, handed_over, failed, batch_dropped, TakenOut, or_both}
+use Rattle.journal_theory.proofs.ListFacts.{Each, Each-append, Each-right, Each-split}
+use Rattle.world_theory.proofs.Steps.{Stepped, received_by, routed, refused_by, took_span, took_tick, closed_by, took_end, answered_by, decided_one, shipped, pulled, handed_over, failed, batch_dropped, or_both}
 use Rattle.world_theory.proofs.Lined.{IsOnLane, at_each}
 use Rattle.world_theory.proofs.Order.{Ordered, ordered_new, ordered_step, replicated}
 use Rattle.world_theory.proofs.EndsLast.{AllEnded, ended_new, ended_step}
 use Rattle.world_theory.proofs.Balance.{same_settings}
 use Rattle.world_theory.proofs.OnePlace.{of_each_answered}
-use Rattle.world_theory.proofs.AllAnswered.{AllAnswered}
 use Rattle.world_theory.proofs.Content.{not_below}
 use Rattle.world_theory.proofs.Single.{contains_split}
 use Rattle.journal_theory.proofs.Sound.{Each-undecided, Each-buffer}
 use Rattle.decision_times.specs.Times.{WasOpened, WasInTime, HasTime}
 use Rattle.decision_times.specs.Laws.{NeverTooEarly, NeverTooLate, NothingAfterAllEnds}
-use Rattle.decision_times.proofs.Early.{all_opened, dealt_in_time}
+use Rattle.decision_times.proofs.Early.{all_opened}
+use Rattle.decision_times.proofs.InTime.{dealt_in_time}
 use Rattle.decision_times.proofs.Late.{undecided_have_time}
 
 -- ---- ends
@@ -158,7 +157,7 @@ nothing_after_all_ends = of_each_answered Halting NothingAfterAllEnds halting_ne
 
 pub never_too_early : OfEachRun NeverTooEarly
 never_too_early = of_each_answered Halting NeverTooEarly halting_new halting_step (λ c room w h a shard sh g d k.
-    Each-split (WasInTime (settings c w) sh.journal) d (notes_dealt (settings c w) sh.journal sh.dealt).decisions (contains_split (notes_dealt (settings c w) sh.journal sh.dealt).decisions d k) (dealt_in_time (settings c w) sh.journal sh.dealt))
+    Each-split (WasInTime (settings c w) sh.journal) d (notes_dealt (settings c w) sh.journal sh.dealt).decisions (contains_split (notes_dealt (settings c w) sh.journal sh.dealt).decisions d k) (dealt_in_time (settings c w) room sh.journal sh.dealt (h.stopped shard sh g) (a shard sh g)))
 
 drop_past : (k : ℕ) (xs : List Opening) → length xs ≤ k → drop k xs ≡ []
 drop_past zero [] l = refl

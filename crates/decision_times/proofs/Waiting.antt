@@ -1,10 +1,8 @@
 -- A shard that has something to decide takes no item.
 -- For the law `decided_before_next_item`.
-use Rattle.std.proofs.Common.{◌≡◌, ℕ, zero, suc, ◌+◌, ◌≤◌, Bool, true, false, List, [], ◌∷◌, ◌++◌, slice_get, slice_set, Option, Some, ◌⊎◌, inl, inr, refl, sym, ap, subst, ◌∙◌, arith}
+use Rattle.std.proofs.Common.{◌≡◌, ℕ, zero, suc, ◌≤◌, Bool, true, false, List, [], ◌∷◌, ◌++◌, slice_get, slice_set, Some, ◌⊎◌, inl, inr, refl, sym, ap, subst, ◌∙◌, arith}
 use Rattle.journal_theory.specs.Journal.{Journal, answered}
-use Rattle.journal_theory.specs.Fate.{Effect}
 use Rattle.world_theory.specs.World.{CoreConfig, CoreShard, World, settings, has_due}
-use Rattle.world_theory.specs.Step.{Step, step}
 use Rattle.world_theory.proofs.Steps.{Stepped, received_by, routed, refused_by, took_span, took_tick, closed_by, took_end, answered_by, decided_one, shipped, pulled, handed_over, failed, batch_dropped, Steps, plain, decided_by, stepped}
 use Rattle.decision_times.specs.Laws.{items, DecidedBeforeNextItem}
 

@@ -6,7 +6,7 @@ use Rattle.world_theory.specs.World.{CoreConfig, CoreShard, World, settings, has
 use Rattle.world_theory.specs.Step.{Step, step}
 use Rattle.decision_times.specs.Times.{WasOpened, WasInTime, HasTime}
 
--- each decision that a shard has dealt with was made for a cause, at the item where that arose
+-- each decision that a shard has dealt with was made for a cause, at the first item at which there was one
 abbrev pub NeverTooEarly : CoreConfig → World → Type 0
 NeverTooEarly c w = (shard : ℕ) (sh : CoreShard) → slice_get w.shards shard ≡ Some sh
     → (d : Decision) → Contains (notes_dealt (settings c w) sh.journal sh.dealt).decisions d → WasInTime (settings c w) sh.journal d

@@ -1,7 +1,7 @@
 -- When the time of a trace's decision has come, by the items that a shard took (tailsamplingprocessor README:
 -- `decision_wait`, `maximum_trace_size_bytes`; this project's `root_wait_ms`). Moments are milliseconds. An item is
 -- taken at the shard's clock after it, which is the greatest moment of the spans and ticks so far.
-use Rattle.std.specs.Prelude.{◌≡◌, ◌≤◌, ◌<◌, ◌+◌, ℕ, Bool, true, false, List, ◌∷◌, ◌++◌, Some, length}
+use Rattle.std.specs.Prelude.{◌≡◌, ◌≤◌, ◌<◌, ◌+◌, ℕ, true, false, ◌∷◌, ◌++◌, Some, length}
 use Rattle.otlp_types.specs.declared.span.Ids.{Ids}
 use Rattle.otlp_types.specs.declared.arrival.Arrival.{Arrival}
 use Rattle.otlp_types.specs.declared.arrival.Item.TheVariants.{Span, Tick}
@@ -50,7 +50,15 @@ pub data Cause (s : Settings) (item : Entry) (before : Journal) (o : Opening) : 
   -- with this item all senders have ended
   is_last : have_ended before s.senders ≡ false → have_ended (item ∷ before) s.senders ≡ true → Cause s item before o
 
--- a decision was made at an item that the shard took, for a cause, on the spans that the trace had then
+-- the time of a trace that waits has not come: nor had it at the last tick
+pub record HasTime (s : Settings) (past : Journal) (o : Opening) : Type 0 where
+  pub wait : mark past < o.moment + s.decision_wait
+  pub root_wait : 0 < s.root_wait → HasRoot s.root_wait (mark past) past o → ⊥
+  pub size : 0 < s.maximum_trace_size → size_of (spans_since past o) ≤ s.maximum_trace_size
+  pub senders : have_ended past s.senders ≡ false
+
+-- A decision was made at an item that the shard took, for a cause, and at the first item at which there was one: its
+-- time had not come before. It is on the spans that the trace had then.
 pub record WasInTime (s : Settings) (past : Journal) (d : Decision) : Type 0 where
   pub later : Journal
   pub item : Entry
@@ -58,11 +66,5 @@ pub record WasInTime (s : Settings) (past : Journal) (d : Decision) : Type 0 whe
   pub split : past ≡ later ++ item ∷ before
   pub opened : WasOpened (item ∷ before) d.opening
   pub cause : Cause s item before d.opening
+  pub time_before : 0 < s.decision_wait → HasTime s before d.opening
   pub spans : d.spans ≡ spans_since (item ∷ before) d.opening
-
--- the time of an undecided trace has not come: nor had it at the last tick
-pub record HasTime (s : Settings) (past : Journal) (o : Opening) : Type 0 where
-  pub wait : mark past < o.moment + s.decision_wait
-  pub root_wait : 0 < s.root_wait → HasRoot s.root_wait (mark past) past o → ⊥
-  pub size : 0 < s.maximum_trace_size → size_of (spans_since past o) ≤ s.maximum_trace_size
-  pub senders : have_ended past s.senders ≡ false

@@ -3,9 +3,9 @@
 ghost use Rattle.world_theory.specs.Headline.{OfEachRun};
 ghost use Rattle.decision_times.specs.Laws.{NeverTooEarly, NeverTooLate, DecidedBeforeNextItem, NothingAfterAllEnds};
 
-/// Each decision of a shard was made for a cause: at a tick, `decision_wait` after the trace's first span was taken or
-/// `root_wait` after a root of it; when its spans had more bytes than a trace may have; or as all senders had ended.
-/// It is on just the spans that the trace had then.
+/// Each decision of a shard was made for a cause, at the first item at which there was one: at a tick, `decision_wait`
+/// after the trace's first span was taken or `root_wait` after a root of it; when its spans had more bytes than a trace
+/// may have; or as all senders had ended. It is on just the spans that the trace had then.
 pub fn never_too_early()
     ensures { OfEachRun NeverTooEarly }
 {}

@@ -14,5 +14,5 @@ report = 3255 ∷ 3000 ∷ 1 ∷ 2 ∷ 4 ∷ 8 ∷ 16 ∷ 32 ∷ 64 ∷ []
 pub each_by_its_reason : map (number_under report) reasons ≡ 1 ∷ 2 ∷ 4 ∷ 8 ∷ 16 ∷ 32 ∷ 64 ∷ []
 each_by_its_reason = refl
 
-pub both_sides : slice_index report (place_of Received) ∷ slice_index report (place_of Handed) ∷ slice_index report (place_of Handed) + sum_by (number_under report) reasons ∷ [] ≡ 3255 ∷ 3000 ∷ 3127 ∷ []
+pub both_sides : slice_index report (place_of Received) ∷ slice_index report (place_of Handed) ∷ (slice_index report (place_of Handed) + sum_by (number_under report) reasons) ∷ [] ≡ 3255 ∷ 3000 ∷ 3127 ∷ []
 both_sides = refl

@@ -1,15 +1,14 @@
 -- The numbers of a report are those of a closed run of the core.
 -- For the laws `reports_add_up` and `always_sample_reports_none`.
-use Rattle.std.proofs.Common.{◌≡◌, ℕ, zero, suc, ◌+◌, ◌<◌, Bool, true, List, [], ◌∷◌, ◌++◌, length, map, flat_map, replicate, length-append, slice_get, slice_index, Option, Some, None, option_map, option_and_then, refl, sym, ap, subst, ◌∙◌, arith}
+use Rattle.std.proofs.Common.{◌≡◌, ℕ, zero, suc, ◌+◌, ◌<◌, List, [], ◌∷◌, length, flat_map, replicate, length-append, slice_get, slice_index, Option, Some, option_map, refl, sym, ap, ◌∙◌, arith}
 use Rattle.std.specs.List.{sum_by}
 use Rattle.otlp_types.specs.declared.arrival.Arrival.{Arrival}
-use Rattle.drop_ledger.specs.declared.count.Count.{Count}
 use Rattle.drop_ledger.specs.declared.count.Count.TheVariants.{Received, Handed, Dropped}
 use Rattle.drop_ledger.specs.Places.{place_of}
 use Rattle.span_ids.specs.declared.outcome.Reason.{Reason}
-use Rattle.span_ids.specs.declared.outcome.Reason.TheVariants.{InvalidId, QueueFull, NoMemory, Evicted, NotSampled, LateNotSampled, ExporterDown}
+use Rattle.span_ids.specs.declared.outcome.Reason.TheVariants.{NotSampled, LateNotSampled}
 use Rattle.journal_theory.specs.Journal.{Settings}
-use Rattle.journal_theory.specs.Fate.{under, DroppedSpan}
+use Rattle.journal_theory.specs.Fate.{under}
 use Rattle.world_theory.specs.World.{CoreConfig, CoreLane, World, KeepsATrace, new_world, new_lane, settings}
 use Rattle.world_theory.specs.Step.{Step, run_from}
 use Rattle.world_theory.specs.Headline.{handed_spans}
@@ -17,11 +16,8 @@ use Rattle.world_theory.proofs.Steps.{Stepped}
 use Rattle.world_theory.proofs.Balance.{same_settings}
 use Rattle.world_theory.proofs.OnePlace.{run_keeps}
 use Rattle.world_theory.proofs.AllAnswered.{answered_new}
-use Rattle.span_weave.specs.Threads.{Threads, ExporterMade}
-use Rattle.span_weave.specs.Woven.{sum_below, counted_in_all, Woven, HoldsOfThreads}
-use Rattle.run_weave.specs.Ran.{counted_at, Reports}
-use Rattle.script_run.specs.World.{ScriptWorld, Sizes}
-use Rattle.script_run.specs.CoreRun.{core_config, count_in, IsRunOfCore}
+use Rattle.span_weave.specs.Woven.{sum_below}
+use Rattle.script_run.specs.CoreRun.{core_config}
 use Rattle.core_laws.specs.Sums.{reasons, received_spans, counted_under_reason}
 use Rattle.core_laws.proofs.Sums.{adds_up_closed}
 use Rattle.core_laws.proofs.Against.{none_against}
