@@ -10,13 +10,14 @@ use Rattle.journal_theory.specs.Journal.{Settings}
 use Rattle.journal_theory.specs.Fate.{DroppedSpan, under}
 use Rattle.world_theory.specs.World.{CoreConfig, CoreLane, CoreShard, World, settings, same_key}
 use Rattle.world_theory.specs.Places.{Place, is_waiting, unrouted, queued, buffered, unshipped, exported, in_batch, handed, counted_under, HeldKey, held_at, buffered_spans, held_by_lanes, held_by_shard, held_by_shards, held, waiting}
-use Rattle.world_theory.specs.Headline.{OfEachRun, handed_spans}
+use Rattle.world_theory.specs.Headline.{OfEachRun, InOnePlace, handed_spans}
 use Rattle.journal_theory.proofs.ListFacts.{tally, tally-append, tally-map, length_filter}
 use Rattle.journal_theory.proofs.Counted.{under_append}
-use Rattle.world_theory.proofs.Balance.{held_amount}
-use Rattle.world_theory.proofs.OnePlace.{Accounted, accounted_new, accounted_step, of_each_run}
+use Rattle.world_theory.proofs.Balance.{held_amount, length_places}
+use Rattle.world_theory.proofs.OnePlace.{in_one_place}
 use Rattle.world_theory.proofs.Single.{occ_all}
 use Rattle.core_laws.specs.Sums.{reasons, received_spans, AddsUp, AddsUpClosed}
+use Rattle.core_laws.proofs.Once.{held_as_got}
 use Rattle.core_laws.proofs.Multisets.{same_length}
 
 -- ---- as many are held as were received
@@ -25,11 +26,11 @@ length_mapped : {X Y : Type 0} (f : X → Y) (xs : List X) → length (map f xs)
 length_mapped f [] = refl
 length_mapped f (x ∷ xs) = ap suc (length_mapped f xs)
 
-all_are_held : (c : CoreConfig) (w : World) → Accounted c w → length (received_spans w) ≡ length (held c w)
+all_are_held : (c : CoreConfig) (w : World) → InOnePlace c w → length (received_spans w) ≡ length (held c w)
 all_are_held c w h =
     let keys = same_length (map (λ (a : Arrival). a.key) (received_spans w)) (map (λ (x : HeldKey). x.key) (held c w)) (λ k.
     tally-map (λ (x : ArrivalKey). same_key x k) (λ (a : Arrival). a.key) (received_spans w)
-    ∙ occ_all k w.lanes ∙ sym (h.balanced k) ∙ sym (held_amount k c w)
+    ∙ occ_all k w.lanes ∙ sym (held_as_got c w h k) ∙ length_places k c w ∙ sym (held_amount k c w)
     ∙ sym (tally-map (λ (x : ArrivalKey). same_key x k) (λ (x : HeldKey). x.key) (held c w))) in
     sym (length_mapped (λ (a : Arrival). a.key) (received_spans w)) ∙ keys ∙ length_mapped (λ (x : HeldKey). x.key) (held c w)
 
@@ -116,14 +117,18 @@ by_reason (n ∷ counted) =
 
 -- ---- the laws
 
-pub adds_up_at : (c : CoreConfig) (w : World) → Accounted c w → AddsUp c w
+-- of each world of which each received span has one place
+pub adds_up_at : (c : CoreConfig) (w : World) → InOnePlace c w → AddsUp c w
 adds_up_at c w h =
     omega (arith, all_are_held c w h, halves waits_at (held c w), length_filter waits_at (held c w), gone_all c w, by_reason w.counted)
 
+pub closed_adds_up_at : (c : CoreConfig) (w : World) → InOnePlace c w → AddsUpClosed c w
+closed_adds_up_at c w h closed =
+    let none : length (waiting c w) ≡ 0 = ap (λ (xs : List HeldKey). length xs) closed.nothing_waits in
+    omega (arith, adds_up_at c w h, none)
+
 pub adds_up : OfEachRun AddsUp
-adds_up = of_each_run Accounted AddsUp accounted_new accounted_step (λ c room w h. adds_up_at c w h)
+adds_up c lanes shards steps w room run = adds_up_at c w (in_one_place c lanes shards steps w room run)
 
 pub adds_up_closed : OfEachRun AddsUpClosed
-adds_up_closed = of_each_run Accounted AddsUpClosed accounted_new accounted_step (λ c room w h closed.
-    let none : length (waiting c w) ≡ 0 = ap (λ (xs : List HeldKey). length xs) closed.nothing_waits in
-    omega (arith, adds_up_at c w h, none))
+adds_up_closed c lanes shards steps w room run = closed_adds_up_at c w (in_one_place c lanes shards steps w room run)

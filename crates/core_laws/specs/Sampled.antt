@@ -6,11 +6,11 @@ use Rattle.policy_tree.specs.declared.policy.Leaf.TheVariants.{AlwaysSample}
 use Rattle.policy_eval.specs.Given.{verdict_given}
 use Rattle.span_ids.specs.declared.outcome.Verdict.TheVariants.{Sampled}
 use Rattle.span_ids.specs.declared.outcome.Reason.TheVariants.{NoMemory, ExporterDown, NotSampled, LateNotSampled}
-use Rattle.journal_theory.specs.Journal.{Decision, notes, remembered}
+use Rattle.journal_theory.specs.Journal.{Decision, is_of_trace, notes, remembered}
 use Rattle.journal_theory.specs.Fate.{under}
 use Rattle.world_theory.specs.World.{CoreConfig, CoreShard, World, settings}
 use Rattle.world_theory.specs.Places.{handed, counted_under, places, IsClosed}
-use Rattle.world_theory.specs.Headline.{TakenSpan}
+use Rattle.world_theory.specs.Headline.{TakenSpan, handed_spans}
 
 -- the span was handed over, once; or its batch was given up, for want of memory or because the sink had failed
 abbrev pub IsOut : CoreConfig → World → Arrival → Type 0
@@ -24,6 +24,20 @@ SampledComesOut c w = IsClosed c w → (shard : ℕ) (sh : CoreShard) → slice_
 -- and so is each span that was taken while its trace was remembered as sampled
 abbrev pub LateFollowsOut : CoreConfig → World → Type 0
 LateFollowsOut c w = IsClosed c w → (t : TakenSpan w) → remembered (settings c w) (notes (settings c w) t.before) t.ids.trace ≡ Some Sampled → IsOut c w t.arrival
+
+-- the span is of a trace that its shard decided as sampled
+pub record IsOfSampled (c : CoreConfig) (w : World) (a : Arrival) : Type 0 where
+  pub shard : ℕ
+  pub of : CoreShard
+  pub in_world : slice_get w.shards shard ≡ Some of
+  pub decision : Decision
+  pub made : Contains (notes (settings c w) of.journal).decisions decision
+  pub sampled : decision.verdict ≡ Sampled
+  pub of_trace : is_of_trace decision.opening.trace a ≡ true
+
+-- what was handed over is of such a trace, and of no other
+abbrev pub OnlySampledComesOut : CoreConfig → World → Type 0
+OnlySampledComesOut c w = (a : Arrival) → Contains (handed_spans w) a → IsOfSampled c w a
 
 -- the policies sample all spans, whatever a limiter answers
 abbrev pub SamplesAll : Policies → Type 0

@@ -2,7 +2,7 @@
 
 ghost use Rattle.world_theory.specs.Headline.{OfEachRun};
 ghost use Rattle.core_laws.specs.Sums.{AddsUp, AddsUpClosed};
-ghost use Rattle.core_laws.specs.Sampled.{SampledComesOut, LateFollowsOut, NoneAgainst, AlwaysSampleSamplesAll};
+ghost use Rattle.core_laws.specs.Sampled.{SampledComesOut, LateFollowsOut, OnlySampledComesOut, NoneAgainst, AlwaysSampleSamplesAll};
 ghost use Rattle.core_laws.specs.Bounds.{WaitingTracesAreFew, WaitingBytesAreFew};
 
 /// As many spans were received as wait, were handed over, and are counted under the seven reasons. Once the run is
@@ -14,10 +14,11 @@ pub fn counts_add_up()
 
 /// In a closed run each span on which a trace was decided as sampled was handed over, or was given up with its batch:
 /// counted under 3 for want of memory, or under 7 where the sink had failed. So was each late span that met such a
-/// decision.
+/// decision. In every run each span that was handed over is of a trace that was decided as sampled.
 pub fn sampled_comes_out()
     ensures decided { OfEachRun SampledComesOut }
     ensures late { OfEachRun LateFollowsOut }
+    ensures only { OfEachRun OnlySampledComesOut }
 {}
 
 /// Where the policies sample all spans whatever a limiter answers, as `always_sample` does, and a trace may have any

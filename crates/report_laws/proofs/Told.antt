@@ -9,17 +9,15 @@ use Rattle.span_ids.specs.declared.outcome.Reason.{Reason}
 use Rattle.span_ids.specs.declared.outcome.Reason.TheVariants.{NotSampled, LateNotSampled}
 use Rattle.journal_theory.specs.Journal.{Settings}
 use Rattle.journal_theory.specs.Fate.{under}
-use Rattle.world_theory.specs.World.{CoreConfig, CoreLane, World, KeepsATrace, new_world, new_lane, settings}
-use Rattle.world_theory.specs.Step.{Step, run_from}
+use Rattle.world_theory.specs.World.{CoreConfig, CoreLane, World, new_world, new_lane}
+use Rattle.world_theory.specs.Step.{Step, step, run_from}
 use Rattle.world_theory.specs.Headline.{handed_spans}
-use Rattle.world_theory.proofs.Steps.{Stepped}
+use Rattle.world_theory.proofs.Steps.{Stepped, Steps, plain, decided_by, stepped, and_then_some}
 use Rattle.world_theory.proofs.Balance.{same_settings}
-use Rattle.world_theory.proofs.OnePlace.{run_keeps}
-use Rattle.world_theory.proofs.AllAnswered.{answered_new}
 use Rattle.span_weave.specs.Woven.{sum_below}
 use Rattle.script_run.specs.CoreRun.{core_config}
 use Rattle.core_laws.specs.Sums.{reasons, received_spans, counted_under_reason}
-use Rattle.core_laws.proofs.Sums.{adds_up_closed}
+use Rattle.core_laws.proofs.Sums.{closed_adds_up_at}
 use Rattle.core_laws.proofs.Against.{none_against}
 use Rattle.report_laws.specs.Reports.{number_under, ReportAddsUp, HasNoneAgainst, ServeAddsUp, ServeDropsNone, ReplayAddsUp, ReplayDropsNone}
 
@@ -32,10 +30,16 @@ length_replicated (suc n) x = ap suc (length_replicated n x)
 same_lanes : (c : CoreConfig) (w next : World) → Stepped c w next → length next.lanes ≡ length w.lanes
 same_lanes c w next st = let e : length next.lanes + 1 ≡ length w.lanes + 1 = ap (λ (s : Settings). s.senders) (same_settings c w next st) in omega (arith, e)
 
+lanes_stay : (c : CoreConfig) (w next : World) → Steps c w next → length next.lanes ≡ length w.lanes
+lanes_stay c w next (plain st p) = same_lanes c w next st
+lanes_stay c w next (decided_by shard sh answers o g due fits e) = ap (λ (x : World). length x.lanes) (sym e)
+
 -- a run keeps how many lanes there are
-lanes_of_run : (c : CoreConfig) → KeepsATrace c → (lanes shards : ℕ) (steps : List Step) (w : World) → run_from c (new_world lanes shards) steps ≡ Some w → length w.lanes ≡ lanes
-lanes_of_run c room lanes shards steps w e =
-    (run_keeps c (λ (x : World). length x.lanes ≡ lanes) room (λ x next st h. same_lanes c x next st ∙ h) steps (new_world lanes shards) w (length_replicated lanes new_lane) (answered_new (settings c (new_world lanes shards)) lanes shards) e).0
+lanes_of_run : (c : CoreConfig) (steps : List Step) (w end : World) → run_from c w steps ≡ Some end → length end.lanes ≡ length w.lanes
+lanes_of_run c [] w end e = let same : w ≡ end = cc e in ap (λ (x : World). length x.lanes) (sym same)
+lanes_of_run c (s ∷ steps) w end e =
+    let k = and_then_some (λ next. run_from c next steps) (step c w s) end e in
+    lanes_of_run c steps k.0 end k.2 ∙ lanes_stay c w k.0 (stepped c w k.0 s k.1)
 
 -- ---- sums below a number, and sums of a list
 
@@ -79,10 +83,10 @@ none_counted : (w : World) (report : List ℕ) → ((reason : Reason) → number
 none_counted w report each none = (each NotSampled ∙ ap (λ xs. length xs) none.0, each LateNotSampled ∙ ap (λ xs. length xs) none.1)
 
 pub serve_adds_up : ServeAddsUp
-serve_adds_up c lanes shards t end report room h told =
+serve_adds_up c lanes shards t end report h told =
     let v = h.woven in
-    adds_up_by v.after report (adds_up_closed c lanes shards v.steps v.after room v.runs v.closed)
-    (told Received ∙ sym (received_below v.after.lanes lanes t.received (lanes_of_run c room lanes shards v.steps v.after v.runs) v.received))
+    adds_up_by v.after report (closed_adds_up_at c v.after h.headline.one_place v.closed)
+    (told Received ∙ sym (received_below v.after.lanes lanes t.received (lanes_of_run c v.steps (new_world lanes shards) v.after v.runs ∙ length_replicated lanes new_lane) v.received))
     (told Handed ∙ ap (λ (batches : List (List Arrival)). length (flat_map (λ batch. batch) batches)) (sym v.handed))
     (λ reason. told (Dropped reason) ∙ sym (v.counted reason))
 
@@ -92,8 +96,8 @@ serve_drops_none c lanes shards t end report room h told samples none =
     none_counted v.after report (λ reason. told (Dropped reason) ∙ sym (v.counted reason)) (none_against c lanes shards v.steps v.after room v.runs samples none)
 
 pub replay_adds_up : ReplayAddsUp
-replay_adds_up s sizes lanes shards w report room h closed told =
-    adds_up_by h.core report (adds_up_closed (core_config s sizes) lanes shards h.steps h.core room h.runs (h.closed closed))
+replay_adds_up s sizes lanes shards w report h closed told =
+    adds_up_by h.core report (closed_adds_up_at (core_config s sizes) h.core h.holds.one_place (h.closed closed))
     ((told.1 Received).0 ∙ sym (h.counts Received)) ((told.1 Handed).0 ∙ sym (h.counts Handed)) (λ reason. (told.1 (Dropped reason)).0 ∙ sym (h.counts (Dropped reason)))
 
 pub replay_drops_none : ReplayDropsNone

@@ -31,7 +31,7 @@ HasNoneAgainst report = (number_under report NotSampled ≡ 0) × (number_under 
 -- ---- of the threads of a run, where the report counts every span's end
 
 abbrev pub ServeAddsUp : Type 0
-ServeAddsUp = (c : CoreConfig) (lanes shards : ℕ) (t : Threads) (end : ExporterMade) (report : List ℕ) → KeepsATrace c → HoldsOfThreads c lanes shards t end → Reports c lanes shards t end report → ReportAddsUp report
+ServeAddsUp = (c : CoreConfig) (lanes shards : ℕ) (t : Threads) (end : ExporterMade) (report : List ℕ) → HoldsOfThreads c lanes shards t end → Reports c lanes shards t end report → ReportAddsUp report
 
 abbrev pub ServeDropsNone : Type 0
 ServeDropsNone = (c : CoreConfig) (lanes shards : ℕ) (t : Threads) (end : ExporterMade) (report : List ℕ) → KeepsATrace c → HoldsOfThreads c lanes shards t end → Reports c lanes shards t end report
@@ -40,7 +40,7 @@ ServeDropsNone = (c : CoreConfig) (lanes shards : ℕ) (t : Threads) (end : Expo
 -- ---- of a script that was played, and closed
 
 abbrev pub ReplayAddsUp : Type 0
-ReplayAddsUp = (s : Settings) (sizes : Sizes) (lanes shards : ℕ) (w : ScriptWorld) (report : List ℕ) → KeepsATrace (core_config s sizes) → IsRunOfCore s sizes lanes shards w → w.closed ≡ true → ScriptReports s w (Some report) → ReportAddsUp report
+ReplayAddsUp = (s : Settings) (sizes : Sizes) (lanes shards : ℕ) (w : ScriptWorld) (report : List ℕ) → IsRunOfCore s sizes lanes shards w → w.closed ≡ true → ScriptReports s w (Some report) → ReportAddsUp report
 
 abbrev pub ReplayDropsNone : Type 0
 ReplayDropsNone = (s : Settings) (sizes : Sizes) (lanes shards : ℕ) (w : ScriptWorld) (report : List ℕ) → KeepsATrace (core_config s sizes) → IsRunOfCore s sizes lanes shards w → ScriptReports s w (Some report)
