@@ -1,5 +1,5 @@
 -- The laws of windows, from one node's askings to those of all nodes and seats.
--- For the laws `grants_in_any_window`, `budgets_grant_in_any_window` and `seats_grant_in_any_window`.
+-- For all laws of the crate.
 use Rattle.std.proofs.Common.{◌≡◌, ℕ, ◌+◌, ◌≤◌, ◌==◌, max, Bool, true, false, cond, List, [], ◌∷◌, filter, sum_by, Option, Some, refl, sym, ap, subst, ◌∙◌, arith}
 use Rattle.std.proofs.lemmas.Bool.Decides.{nat_tests}
 use Rattle.std.proofs.lemmas.List.Sums.{sum_by-cons}
@@ -13,7 +13,7 @@ use Rattle.rate_budget.specs.declared.count.LimiterCount.{LimiterCount}
 use Rattle.shared_budget.specs.declared.known.Asked.{Asked}
 use Rattle.shared_budget.specs.History.{askings, IsLegal}
 use Rattle.rate_windows.specs.Window.{AreAnswered, is_within, granted_over, granted_to_asked_over, NoSecondGoesBack, most_over}
-use Rattle.rate_windows.specs.Laws.{AnyWindow, AnyWindowOfOwnSeconds, AskedInTurn, AnyWindowOfBudgets, AnyWindowOfSeats}
+use Rattle.rate_windows.specs.Laws.{AnyWindow, AnyWindowOfOwnSeconds, AreAnsweredAfter, AnyWindowOfPolicies, AskedInTurn, AnyWindowOfBudgets, AnyWindowOfSeats}
 use Rattle.rate_windows.proofs.OfSpans.{over-spans}
 use Rattle.rate_windows.proofs.OfBytes.{over-bytes}
 
@@ -47,15 +47,6 @@ any-window-own limit own is h first seconds = subst (λ m. m ≤ most_over secon
 same-node : (a b : ℕ) → (a == b) ≡ true → a ≡ b
 same-node a b h = grind (arith, nat_tests)
 
--- the counts are those of the askings
-counts-are : (policies : Policies) (asked : List Asking) (counts : List LimiterCount) → AskedInTurn policies asked counts → counts ≡ limiter_counts policies asked
-counts-are policies [] counts h = h
-counts-are policies (a ∷ earlier) counts h =
-    let were = counts-are policies earlier h.0 h.1 in
-    let granted : a.granted ≡ granted_after policies earlier a.second a.amount a.node
-    = h.2.0 ∙ ap (λ (cs : List LimiterCount). grants_at cs a.node a.second a.amount) were ∙ counts-grant policies earlier a.node a.second a.amount in
-    h.2.1 ∙ ap (λ (cs : List LimiterCount). after cs a.node a.second a.amount) were ∙ counts-after policies a earlier granted
-
 -- one asking more, where it is of the node or of another
 answered-by : (policies : Policies) (node : ℕ) (limit : Limit) → limit_among (limiters policies) node ≡ Some limit → (a : Asking) (earlier : List Asking)
     → a.granted ≡ granted_after policies earlier a.second a.amount a.node → AreAnswered limit (askings_of node earlier)
@@ -68,18 +59,24 @@ answered-by policies node limit known a earlier granted others true e =
 answered-by policies node limit known a earlier granted others false e = others
 
 -- and so each is answered at its node as the ones before it say
-answered-at : (policies : Policies) (node : ℕ) (limit : Limit) → limit_among (limiters policies) node ≡ Some limit → (asked : List Asking) (counts : List LimiterCount) → AskedInTurn policies asked counts
-    → AreAnswered limit (askings_of node asked)
-answered-at policies node limit known [] counts h = tt
-answered-at policies node limit known (a ∷ earlier) counts h =
+answered-at : (policies : Policies) (node : ℕ) (limit : Limit) → limit_among (limiters policies) node ≡ Some limit → (asked : List Asking) → AreAnsweredAfter policies asked → AreAnswered limit (askings_of node asked)
+answered-at policies node limit known [] h = tt
+answered-at policies node limit known (a ∷ earlier) h = answered-by policies node limit known a earlier h.0 (answered-at policies node limit known earlier h.1) (a.node == node) refl
+
+pub any-window-of-policies : AnyWindowOfPolicies
+any-window-of-policies policies asked h node limit known first seconds = any-window limit (askings_of node asked) (answered-at policies node limit known asked h) first seconds
+
+-- the counts are those of the askings, each of which is answered so
+counts-are : (policies : Policies) (asked : List Asking) (counts : List LimiterCount) → AskedInTurn policies asked counts → (counts ≡ limiter_counts policies asked) × AreAnsweredAfter policies asked
+counts-are policies [] counts h = (h, tt)
+counts-are policies (a ∷ earlier) counts h =
     let were = counts-are policies earlier h.0 h.1 in
     let granted : a.granted ≡ granted_after policies earlier a.second a.amount a.node
-    = h.2.0 ∙ ap (λ (cs : List LimiterCount). grants_at cs a.node a.second a.amount) were ∙ counts-grant policies earlier a.node a.second a.amount in
-    answered-by policies node limit known a earlier granted (answered-at policies node limit known earlier h.0 h.1) (a.node == node) refl
+    = h.2.0 ∙ ap (λ (cs : List LimiterCount). grants_at cs a.node a.second a.amount) were.0 ∙ counts-grant policies earlier a.node a.second a.amount in
+    (h.2.1 ∙ ap (λ (cs : List LimiterCount). after cs a.node a.second a.amount) were.0 ∙ counts-after policies a earlier granted, (granted, were.1))
 
 pub any-window-of-budgets : AnyWindowOfBudgets
-any-window-of-budgets policies asked counts h node limit known first seconds =
-    any-window limit (askings_of node asked) (answered-at policies node limit known asked counts h) first seconds
+any-window-of-budgets policies asked counts h = any-window-of-policies policies asked (counts-are policies asked counts h).1
 
 -- ---- a limiter that several threads ask
 

@@ -1,9 +1,9 @@
--- What holds over any stretch of seconds: of the askings of one node, of a limiter that one thread asks, and of the
--- seats of one that several threads ask.
+-- What holds over any stretch of seconds: of the askings of one node, of those of all nodes of some policies, of a
+-- limiter that one thread asks, and of the seats of one that several threads ask.
 use Rattle.std.specs.Prelude.{ℕ, ◌≡◌, ◌≤◌, List, [], ◌∷◌, Some, All}
 use Rattle.policy_tree.specs.declared.limit.Limit.{Limit}
 use Rattle.policy_tree.specs.Tree.{Policies, limiters}
-use Rattle.rate_budget.specs.Grant.{Asking, askings_of, limit_among}
+use Rattle.rate_budget.specs.Grant.{Asking, askings_of, limit_among, granted_after}
 use Rattle.rate_budget.specs.Budget.{limiter_counts, AsksBudgets}
 use Rattle.rate_budget.specs.declared.count.LimiterCount.{LimiterCount}
 use Rattle.shared_budget.specs.declared.known.Asked.{Asked}
@@ -21,6 +21,19 @@ AnyWindow = (limit : Limit) (own : List Asking) → AreAnswered limit own → (f
 -- the same by the seconds that the askings name, where none goes back
 abbrev pub AnyWindowOfOwnSeconds : Type 0
 AnyWindowOfOwnSeconds = (limit : Limit) (own : List Asking) → AreAnswered limit own → NoSecondGoesBack own → (first seconds : ℕ) → granted_to_asked_over first seconds own ≤ most_over seconds limit
+
+-- ---- the askings of all nodes
+
+-- each asking is granted exactly where the ones before it say so, at its node of the policies
+abbrev pub AreAnsweredAfter : Policies → List Asking → Type 0
+AreAnsweredAfter policies [] = Unit {0}
+AreAnsweredAfter policies (a ∷ earlier) = (a.granted ≡ granted_after policies earlier a.second a.amount a.node) × AreAnsweredAfter policies earlier
+
+-- at each limiter node of the policies
+abbrev pub AnyWindowOfPolicies : Type 0
+AnyWindowOfPolicies = (policies : Policies) (asked : List Asking) → AreAnsweredAfter policies asked
+    → (node : ℕ) (limit : Limit) → limit_among (limiters policies) node ≡ Some limit
+    → (first seconds : ℕ) → granted_over first seconds (askings_of node asked) ≤ most_over seconds limit
 
 -- ---- a limiter that one thread asks
 
