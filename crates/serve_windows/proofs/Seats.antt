@@ -10,7 +10,7 @@ use Rattle.policy_tree.specs.declared.limiter_node.LimiterNode.{LimiterNode}
 use Rattle.policy_eval.specs.Given.{Asked, asked_given}
 use Rattle.policy_eval.specs.Amounts.{amount_at}
 use Rattle.shared_budget.specs.declared.known.Asked.{Asked as Known}
-use Rattle.shared_budget.specs.History.{askings}
+use Rattle.shared_budget.specs.History.{askings, IsLegal}
 use Rattle.shared_budget.specs.Seats.{Stand, StandsIn, AsksAt}
 use Rattle.shared_budget.specs.Budget.{new_seat, AreNewSeats, NodeCell, cell_of, column, HaveOneHistoryEach}
 use Rattle.shared_budget.proofs.AllNodes.{asking_keeps}
@@ -47,11 +47,11 @@ journal_keeps s (e ∷ before) old new h = turns_keep s _ (spans_since (e ∷ be
 
 -- a new seat is at the node, with its limit
 new_at : (tables : List TableId) (nodes : List LimiterNode) (seats number place : ℕ) (l : LimiterNode) → length tables ≡ length nodes → slice_get nodes place ≡ Some l
-    → (s : Stand) × (slice_get (new_seat tables nodes seats number) place ≡ Some s) × (s.1.limit ≡ l.limit)
+    → (s : Stand) × (slice_get (new_seat tables nodes seats number) place ≡ Some s) × (s.1.node ≡ l.node) × (s.1.limit ≡ l.limit)
 new_at [] [] seats number place l e at = absurd (cc at)
 new_at [] (n ∷ nodes) seats number place l e at = absurd (omega (arith, e))
 new_at (t ∷ tables) [] seats number place l e at = absurd (cc at)
-new_at (t ∷ tables) (n ∷ nodes) seats number zero l e at = let same : n ≡ l = cc at in (_, refl, ap (λ (x : LimiterNode). x.limit) same)
+new_at (t ∷ tables) (n ∷ nodes) seats number zero l e at = let same : n ≡ l = cc at in (_, refl, ap (λ (x : LimiterNode). x.node) same, ap (λ (x : LimiterNode). x.limit) same)
 new_at (t ∷ tables) (n ∷ nodes) seats number (suc place) l e at = new_at tables nodes seats number place l (omega (arith, e)) at
 
 -- and so is one with its cells
@@ -66,12 +66,12 @@ same_at (x ∷ old) (y ∷ new) (suc place) s e at = let rest : map cell_of new 
 -- ---- the law
 
 -- what is to be shown of the seats at one place
-abbrev GrantsAt : List (List Stand) → (place : ℕ) → Limit → Type 0
-GrantsAt last place limit = (log : List Known) × All (StandsIn log) (column place last) × ((first seconds : ℕ) → granted_over first seconds (askings log) ≤ most_over seconds limit)
+abbrev GrantsAt : List (List Stand) → (place : ℕ) → LimiterNode → Type 0
+GrantsAt last place l = (log : List Known) × IsLegal l.node l.limit log × All (StandsIn log) (column place last) × ((first seconds : ℕ) → granted_over first seconds (askings log) ≤ most_over seconds l.limit)
 
 grants_at : (nodes : List LimiterNode) (shards : ℕ) (s : Settings) (past : ℕ → Journal) (first last : List (List Stand)) → AreNewSeats nodes shards first → length last ≡ shards → 0 < shards
     → ((shard : ℕ) (seat new : List Stand) → slice_get first shard ≡ Some seat → slice_get last shard ≡ Some new → AskedBy AsksAt s (past shard) seat new)
-    → HaveOneHistoryEach last → (place : ℕ) (l : LimiterNode) → slice_get nodes place ≡ Some l → GrantsAt last place l.limit
+    → HaveOneHistoryEach last → (place : ℕ) (l : LimiterNode) → slice_get nodes place ≡ Some l → GrantsAt last place l
 grants_at nodes shards s past [] last new long some asked one place l at = absurd (omega (arith, new.0))
 grants_at nodes shards s past (f ∷ first) [] new long some asked one place l at = absurd (omega (arith, long))
 grants_at nodes shards s past (f ∷ first) (g ∷ last) new long some asked one place l at =
@@ -79,12 +79,13 @@ grants_at nodes shards s past (f ∷ first) (g ∷ last) new long some asked one
     let begun = new_at new.1.0 nodes shards 0 place l new.1.1 at in
     let stood : slice_get f place ≡ Some begun.0 = ap (λ (seat : List Stand). slice_get seat place) new.1.2.0 ∙ begun.1 in
     let left = same_at f g place begun.0 (journal_keeps s (past 0) f g (asked 0 f g refl refl)) stood in
-    let limit : left.0.1.limit ≡ l.limit = ap (λ (cell : NodeCell). cell.2) left.2 ∙ begun.2 in
+    let limit : left.0.1.limit ≡ l.limit = ap (λ (cell : NodeCell). cell.2) left.2 ∙ begun.3 in
+    let node : left.0.1.node ≡ l.node = ap (λ (cell : NodeCell). cell.1) left.2 ∙ begun.2 in
     let w = any-window-of-seats (g ∷ last) one place in
     let here : column place (g ∷ last) ≡ left.0 ∷ column place last = ap (λ (o : Option Stand). unwrap_or (option_map (λ (x : Stand). x ∷ column place last) o) (column place last)) left.1 in
-    let P : Stand → Type 0 = λ x. StandsIn w.0 x × ((first seconds : ℕ) → granted_over first seconds (askings w.0) ≤ most_over seconds x.1.limit) in
+    let P : Stand → Type 0 = λ x. IsLegal x.1.node x.1.limit w.0 × StandsIn w.0 x × ((first seconds : ℕ) → granted_over first seconds (askings w.0) ≤ most_over seconds x.1.limit) in
     let own = All-head P left.0 (column place last) (subst (All P) here w.1) in
-    (w.0, All-weaker P (StandsIn w.0) (λ x h. h.0) (column place (g ∷ last)) w.1, subst (λ (m : Limit). (first seconds : ℕ) → granted_over first seconds (askings w.0) ≤ most_over seconds m) limit own.1)
+    (w.0, subst (λ (y : ℕ × Limit). IsLegal y.0 y.1 w.0) (λ i. (node i, limit i)) own.0, All-weaker P (StandsIn w.0) (λ x h. h.1) (column place (g ∷ last)) w.1, subst (λ (m : Limit). (first seconds : ℕ) → granted_over first seconds (askings w.0) ≤ most_over seconds m) limit own.2)
 
 pub limiters_grant : LimitersGrantInAnyWindow
 limiters_grant c nodes lanes shards t some h place l at = grants_at nodes shards (settings_for c (lanes + 1)) (journal_of t) h.first h.last h.new_seats h.seats some h.asked h.one_history place l at
