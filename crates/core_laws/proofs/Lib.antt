@@ -1,3 +1,4 @@
+pub mod Extent
 pub mod Multisets
 pub mod Once
 pub mod Sums

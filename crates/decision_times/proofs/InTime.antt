@@ -1,12 +1,12 @@
 -- Each decision was made at the first item at which it had a cause.
 -- For the law `never_too_early`.
-use Rattle.std.proofs.Common.{◌≡◌, ℕ, ◌<◌, ◌≤◌, ◌==◌, Bool, true, false, cond, List, [], ◌∷◌, length, reverse, take, drop, find, Option, Some, None, is_none, option_map, option_to_list, refl, sym, ap, subst, ◌∙◌, arith, length-append, take-append-drop}
+use Rattle.std.proofs.Common.{◌≡◌, ℕ, ◌<◌, ◌≤◌, ◌==◌, Bool, true, false, cond, List, [], ◌∷◌, length, reverse, find, Option, Some, None, is_none, option_map, option_to_list, refl, sym, ap, subst, ◌∙◌, arith, length-append}
 use Rattle.otlp_types.specs.declared.span.Ids.{Ids}
 use Rattle.otlp_types.specs.declared.arrival.Item.{Item}
 use Rattle.otlp_types.specs.declared.arrival.Item.TheVariants.{Span, Tick, End}
 use Rattle.span_ids.specs.declared.ids.TraceId.{TraceId}
 use Rattle.span_size.specs.Size.{size_of}
-use Rattle.journal_theory.specs.Journal.{Settings, Journal, Entry, Opening, Decision, Notes, Finding, joins, meets, opens, finding, leaving, clock, spans_since, have_ended, StoppedInTime, IsAnswered, IsAnsweredUpTo, due_at, in_buffer, undecided, decisions_in_turn, decisions_now, after_finding, after_span, after_item, notes, notes_dealt}
+use Rattle.journal_theory.specs.Journal.{Settings, Journal, Entry, Opening, Decision, Notes, Finding, joins, meets, opens, finding, leaving, clock, spans_since, have_ended, StoppedInTime, IsAnswered, IsAnsweredUpTo, due_at, in_buffer, undecided, decisions_in_turn, decisions_now, after_finding, after_span, after_item, notes}
 use Rattle.journal_theory.specs.Standing.{mark}
 use Rattle.journal_theory.proofs.ListFacts.{Each, Each-append, Each-left, Each-weaker, Each-reverse, Each-split, Split}
 use Rattle.journal_theory.proofs.Notes.{HasRoom, is_open, spans_before}
@@ -117,12 +117,10 @@ all_in_time s room (e ∷ J) running given =
     Each-append (WasInTime s (e ∷ J)) (reverse (decisions_now s (e ∷ J))) (after_item s e J e.item (notes s J)).decisions
     (Each-reverse (WasInTime s (e ∷ J)) (decisions_now s (e ∷ J)) (now_in_time s room e J running given.1)) (before_in_time s e J (all_in_time s room J (stopped-before s room e J running) given.1))
 
--- where only the first decisions at the last item were dealt with
-pub dealt_in_time : (s : Settings) → HasRoom s.num_traces → (J : Journal) (dealt : ℕ) → StoppedInTime s J → IsAnsweredUpTo s J dealt → Each (WasInTime s J) (notes_dealt s J dealt).decisions
-dealt_in_time s room [] dealt running given = tt
-dealt_in_time s room (e ∷ J) dealt running given =
-    let ds = decisions_now s (e ∷ J) in
-    Each-append (WasInTime s (e ∷ J)) (reverse (take dealt ds)) (after_item s e J e.item (notes s J)).decisions
-    (Each-reverse (WasInTime s (e ∷ J)) (take dealt ds) (Each-left (WasInTime s (e ∷ J)) (take dealt ds) (drop dealt ds)
-    (subst (λ (z : List Decision). Each (WasInTime s (e ∷ J)) z) (sym (take-append-drop dealt ds)) (now_in_time s room e J running given.1))))
-    (before_in_time s e J (all_in_time s room J (stopped-before s room e J running) given.1))
+-- and so it is where only the first decisions at the last item were answered
+pub noted_in_time : (s : Settings) → HasRoom s.num_traces → (J : Journal) (dealt : ℕ) → StoppedInTime s J → IsAnsweredUpTo s J dealt → Each (WasInTime s J) (notes s J).decisions
+unfolding notes
+noted_in_time s room [] dealt running given = tt
+noted_in_time s room (e ∷ J) dealt running given =
+    Each-append (WasInTime s (e ∷ J)) (reverse (decisions_now s (e ∷ J))) (after_item s e J e.item (notes s J)).decisions
+    (Each-reverse (WasInTime s (e ∷ J)) (decisions_now s (e ∷ J)) (now_in_time s room e J running given.1)) (before_in_time s e J (all_in_time s room J (stopped-before s room e J running) given.1))

@@ -1,5 +1,6 @@
 -- Worked rows of when a trace is due, by computation.
 -- No contract rests on it: it shows the definitions on worked cases.
+use Rattle.std.proofs.Common.{arith}
 use Rattle.std.specs.Prelude.{ℕ, false, List, [], ◌∷◌, map, length, Option, Some, None, ◌≡◌, refl}
 use Rattle.otlp_types.proofs.Samples.{plain_record}
 use Rattle.otlp_types.specs.declared.span.Ids.{Ids}
@@ -7,8 +8,11 @@ use Rattle.otlp_types.specs.declared.arrival.Item.{Item}
 use Rattle.otlp_types.specs.declared.arrival.Item.TheVariants.{Span, Tick, End}
 use Rattle.policy_tree.specs.Tree.{no_more, one_more, leaf}
 use Rattle.policy_tree.specs.declared.policy.Leaf.TheVariants.{AlwaysSample}
-use Rattle.journal_theory.specs.Journal.{Settings, Journal, Entry, clock, notes, due_now}
+use Rattle.journal_theory.specs.Journal.{Settings, Journal, Entry, Opening, clock, notes, due_now}
 use Rattle.journal_theory.specs.Standing.{mark}
+use Rattle.decision_times.specs.Times.{WasOpened, HasRoot, Cause, has_waited, root_has_waited, is_big, is_last, HasTime}
+use Rattle.decision_times.proofs.Early.{has_root}
+use Rattle.decision_times.proofs.Late.{root_past}
 
 abbrev took : Item → Entry
 took item = record { item = item; refused = false; lost = false; answers = [] }
@@ -51,3 +55,45 @@ due_at_the_close = refl
 -- the clock goes on with a span, and the mark stays at the last tick
 pub mark_of_the_last_tick : clock (span 1600 None ∷ took (Tick 1300) ∷ childless) ∷ mark (span 1600 None ∷ took (Tick 1300) ∷ childless) ∷ [] ≡ 1600 ∷ 1500 ∷ []
 mark_of_the_last_tick = refl
+
+-- ---- the cause and the time of a trace, at its bounds
+
+-- without a root wait
+abbrev plain : Settings
+plain = record waits { root_wait = 0 }
+
+abbrev opening : Opening
+opening = record { at = 0; trace = 7 ∷ []; moment = 1000 }
+
+pub cause_at_its_wait : Cause plain (took (Tick 1700)) childless opening
+cause_at_its_wait = has_waited 1700 refl (omega arith)
+
+pub no_cause_before : Cause plain (took (Tick 1699)) childless opening → ⊥
+no_cause_before (has_waited m is waited) = absurd (omega (arith, waited))
+no_cause_before (root_has_waited m is on root) = absurd (omega (arith, on))
+no_cause_before (is_big on big) = absurd (omega (arith, on))
+no_cause_before (is_last running ended) = absurd (cc ended)
+
+pub time_until_then : HasTime plain (took (Tick 1699) ∷ childless) opening
+time_until_then = record { wait = omega arith; root_wait = λ on root. absurd (omega (arith, on)); size = λ on. absurd (omega (arith, on)); senders = refl }
+
+pub time_is_over : HasTime plain (took (Tick 1700) ∷ childless) opening → ⊥
+time_is_over h = let w = h.wait in absurd (omega (arith, w))
+
+-- with all Ends a trace has no time, and the last End is a cause
+pub no_time_at_the_close : HasTime plain (took (End 1) ∷ took (End 0) ∷ childless) opening → ⊥
+no_time_at_the_close h = absurd (cc h.senders)
+
+pub cause_at_the_close : Cause plain (took (End 1)) (took (End 0) ∷ childless) opening
+cause_at_the_close = is_last refl refl
+
+-- a root has waited from its own moment on, not from the opening's
+pub root_at_its_wait : HasRoot 90 1290 rooted opening
+root_at_its_wait = has_root 90 1290 rooted opening refl
+
+pub no_root_before : HasRoot 90 1289 rooted opening → ⊥
+no_root_before h = absurd (cc (root_past 90 1289 rooted opening h))
+
+-- the opening is that of the first span
+pub opened_by_the_first : WasOpened childless opening
+opened_by_the_first = record { later = span 1500 (Some (3 ∷ [])) ∷ []; item = span 1000 (Some (3 ∷ [])); before = []; split = refl; first = _; is = refl; kept = refl; ids = _; valid = refl; trace = refl; at = refl; moment = refl }

@@ -4,7 +4,7 @@ use Rattle.std.proofs.Common.{◌≡◌, ℕ, zero, suc, ◌+◌, ◌<◌, ◌�
 use Rattle.std.specs.List.{list_any}
 use Rattle.std.proofs.lemmas.Bool.{and_parts}
 use Rattle.std.proofs.lemmas.Bool.Decides.{nat_tests}
-use Rattle.journal_theory.specs.Journal.{Settings, Journal, Opening, StoppedInTime, answered, has_ended, have_ended, due_now, notes, notes_dealt, undecided}
+use Rattle.journal_theory.specs.Journal.{Settings, Journal, Opening, StoppedInTime, answered, has_ended, have_ended, due_now, notes, undecided}
 use Rattle.otlp_types.specs.declared.arrival.Arrival.{Arrival}
 use Rattle.world_theory.specs.World.{CoreConfig, CoreLane, CoreShard, World, new_world, new_shard, settings, ticker}
 use Rattle.world_theory.specs.Step.{sender_is_done}
@@ -23,7 +23,7 @@ use Rattle.journal_theory.proofs.Sound.{Each-undecided, Each-buffer}
 use Rattle.decision_times.specs.Times.{WasOpened, WasInTime, HasTime}
 use Rattle.decision_times.specs.Laws.{NeverTooEarly, NeverTooLate, NothingAfterAllEnds}
 use Rattle.decision_times.proofs.Early.{all_opened}
-use Rattle.decision_times.proofs.InTime.{dealt_in_time}
+use Rattle.decision_times.proofs.InTime.{noted_in_time}
 use Rattle.decision_times.proofs.Late.{undecided_have_time}
 
 -- ---- ends
@@ -157,7 +157,8 @@ nothing_after_all_ends = of_each_answered Halting NothingAfterAllEnds halting_ne
 
 pub never_too_early : OfEachRun NeverTooEarly
 never_too_early = of_each_answered Halting NeverTooEarly halting_new halting_step (λ c room w h a shard sh g d k.
-    Each-split (WasInTime (settings c w) sh.journal) d (notes_dealt (settings c w) sh.journal sh.dealt).decisions (contains_split (notes_dealt (settings c w) sh.journal sh.dealt).decisions d k) (dealt_in_time (settings c w) room sh.journal sh.dealt (h.stopped shard sh g) (a shard sh g)))
+    Each-split (WasInTime (settings c w) sh.journal) d (notes (settings c w) sh.journal).decisions (contains_split (notes (settings c w) sh.journal).decisions d k)
+    (noted_in_time (settings c w) room sh.journal sh.dealt (h.stopped shard sh g) (a shard sh g)))
 
 drop_past : (k : ℕ) (xs : List Opening) → length xs ≤ k → drop k xs ≡ []
 drop_past zero [] l = refl

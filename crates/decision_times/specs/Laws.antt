@@ -1,15 +1,15 @@
 -- When traces are decided, in every run of the core.
 use Rattle.std.specs.Prelude.{◌≡◌, ◌≤◌, ◌<◌, ℕ, true, false, List, map, Some, slice_get, Contains}
 use Rattle.otlp_types.specs.declared.arrival.Item.{Item}
-use Rattle.journal_theory.specs.Journal.{Journal, Entry, Opening, Decision, StoppedInTime, notes, notes_dealt, undecided}
+use Rattle.journal_theory.specs.Journal.{Journal, Entry, Opening, Decision, StoppedInTime, notes, undecided}
 use Rattle.world_theory.specs.World.{CoreConfig, CoreShard, World, settings, has_due}
 use Rattle.world_theory.specs.Step.{Step, step}
 use Rattle.decision_times.specs.Times.{WasOpened, WasInTime, HasTime}
 
--- each decision that a shard has dealt with was made for a cause, at the first item at which there was one
+-- each decision of a shard was made for a cause, at the first item at which there was one
 abbrev pub NeverTooEarly : CoreConfig → World → Type 0
 NeverTooEarly c w = (shard : ℕ) (sh : CoreShard) → slice_get w.shards shard ≡ Some sh
-    → (d : Decision) → Contains (notes_dealt (settings c w) sh.journal sh.dealt).decisions d → WasInTime (settings c w) sh.journal d
+    → (d : Decision) → Contains (notes (settings c w) sh.journal).decisions d → WasInTime (settings c w) sh.journal d
 
 -- where a shard has nothing to decide, the time of each trace that stands undecided in it has not come
 abbrev pub NeverTooLate : CoreConfig → World → Type 0

@@ -88,4 +88,4 @@ legal-is-answered node limit (e ∷ log) h = (h.1, legal-is-answered node limit 
 pub any-window-of-seats : AnyWindowOfSeats
 any-window-of-seats seats h place =
     let o = h place in
-    (o.0, λ k d lt. ((o.1 k d lt).2, λ first seconds. any-window _ (askings o.0) (legal-is-answered _ _ o.0 (o.1 k d lt).0) first seconds))
+    (o.0, λ k d lt. ((o.1 k d lt).0, (o.1 k d lt).2, λ first seconds. any-window _ (askings o.0) (legal-is-answered _ _ o.0 (o.1 k d lt).0) first seconds))

@@ -7,7 +7,7 @@ use Rattle.rate_budget.specs.Grant.{Asking, askings_of, limit_among, granted_aft
 use Rattle.rate_budget.specs.Budget.{limiter_counts, AsksBudgets}
 use Rattle.rate_budget.specs.declared.count.LimiterCount.{LimiterCount}
 use Rattle.shared_budget.specs.declared.known.Asked.{Asked}
-use Rattle.shared_budget.specs.History.{askings}
+use Rattle.shared_budget.specs.History.{askings, IsLegal}
 use Rattle.shared_budget.specs.Seats.{Stand, StandsIn}
 use Rattle.shared_budget.specs.Budget.{column, HaveOneHistoryEach}
 use Rattle.rate_windows.specs.Window.{AreAnswered, granted_over, granted_to_asked_over, NoSecondGoesBack, most_over}
@@ -50,7 +50,7 @@ AnyWindowOfBudgets = (policies : Policies) (asked : List Asking) (counts : List 
 
 -- ---- a limiter that several threads ask
 
--- in one history of each node, with every seat's askings
+-- in one history of each node, with every seat's askings, each of which is granted as the ones before it say
 abbrev pub AnyWindowOfSeats : Type 0
 AnyWindowOfSeats = (seats : List (List Stand)) → HaveOneHistoryEach seats → (place : ℕ)
-    → (log : List Asked) × All (λ (s : Stand). StandsIn log s × ((first seconds : ℕ) → granted_over first seconds (askings log) ≤ most_over seconds s.1.limit)) (column place seats)
+    → (log : List Asked) × All (λ (s : Stand). IsLegal s.1.node s.1.limit log × StandsIn log s × ((first seconds : ℕ) → granted_over first seconds (askings log) ≤ most_over seconds s.1.limit)) (column place seats)

@@ -1,45 +1,22 @@
 -- The numbers of a report are those of a closed run of the core.
 -- For the laws `reports_add_up` and `always_sample_reports_none`.
-use Rattle.std.proofs.Common.{◌≡◌, ℕ, zero, suc, ◌+◌, ◌<◌, List, [], ◌∷◌, length, flat_map, replicate, length-append, slice_get, slice_index, Option, Some, option_map, refl, sym, ap, ◌∙◌, arith}
+use Rattle.std.proofs.Common.{◌≡◌, ℕ, zero, suc, ◌+◌, ◌<◌, List, [], ◌∷◌, length, flat_map, length-append, slice_get, slice_index, Option, Some, option_map, refl, sym, ap, ◌∙◌, arith}
 use Rattle.std.specs.List.{sum_by}
 use Rattle.otlp_types.specs.declared.arrival.Arrival.{Arrival}
 use Rattle.drop_ledger.specs.declared.count.Count.TheVariants.{Received, Handed, Dropped}
 use Rattle.drop_ledger.specs.Places.{place_of}
 use Rattle.span_ids.specs.declared.outcome.Reason.{Reason}
 use Rattle.span_ids.specs.declared.outcome.Reason.TheVariants.{NotSampled, LateNotSampled}
-use Rattle.journal_theory.specs.Journal.{Settings}
 use Rattle.journal_theory.specs.Fate.{under}
-use Rattle.world_theory.specs.World.{CoreConfig, CoreLane, World, new_world, new_lane}
-use Rattle.world_theory.specs.Step.{Step, step, run_from}
+use Rattle.world_theory.specs.World.{CoreLane, World}
 use Rattle.world_theory.specs.Headline.{handed_spans}
-use Rattle.world_theory.proofs.Steps.{Stepped, Steps, plain, decided_by, stepped, and_then_some}
-use Rattle.world_theory.proofs.Balance.{same_settings}
 use Rattle.span_weave.specs.Woven.{sum_below}
 use Rattle.script_run.specs.CoreRun.{core_config}
 use Rattle.core_laws.specs.Sums.{reasons, received_spans, counted_under_reason}
+use Rattle.core_laws.proofs.Extent.{lanes_of_run}
 use Rattle.core_laws.proofs.Sums.{closed_adds_up_at}
 use Rattle.core_laws.proofs.Against.{none_against}
 use Rattle.report_laws.specs.Reports.{number_under, ReportAddsUp, HasNoneAgainst, ServeAddsUp, ServeDropsNone, ReplayAddsUp, ReplayDropsNone}
-
--- ---- the lanes of a run
-
-length_replicated : {X : Type 0} (n : ℕ) (x : X) → length (replicate n x) ≡ n
-length_replicated zero x = refl
-length_replicated (suc n) x = ap suc (length_replicated n x)
-
-same_lanes : (c : CoreConfig) (w next : World) → Stepped c w next → length next.lanes ≡ length w.lanes
-same_lanes c w next st = let e : length next.lanes + 1 ≡ length w.lanes + 1 = ap (λ (s : Settings). s.senders) (same_settings c w next st) in omega (arith, e)
-
-lanes_stay : (c : CoreConfig) (w next : World) → Steps c w next → length next.lanes ≡ length w.lanes
-lanes_stay c w next (plain st p) = same_lanes c w next st
-lanes_stay c w next (decided_by shard sh answers o g due fits e) = ap (λ (x : World). length x.lanes) (sym e)
-
--- a run keeps how many lanes there are
-lanes_of_run : (c : CoreConfig) (steps : List Step) (w end : World) → run_from c w steps ≡ Some end → length end.lanes ≡ length w.lanes
-lanes_of_run c [] w end e = let same : w ≡ end = cc e in ap (λ (x : World). length x.lanes) (sym same)
-lanes_of_run c (s ∷ steps) w end e =
-    let k = and_then_some (λ next. run_from c next steps) (step c w s) end e in
-    lanes_of_run c steps k.0 end k.2 ∙ lanes_stay c w k.0 (stepped c w k.0 s k.1)
 
 -- ---- sums below a number, and sums of a list
 
@@ -86,7 +63,7 @@ pub serve_adds_up : ServeAddsUp
 serve_adds_up c lanes shards t end report h told =
     let v = h.woven in
     adds_up_by v.after report (closed_adds_up_at c v.after h.headline.one_place v.closed)
-    (told Received ∙ sym (received_below v.after.lanes lanes t.received (lanes_of_run c v.steps (new_world lanes shards) v.after v.runs ∙ length_replicated lanes new_lane) v.received))
+    (told Received ∙ sym (received_below v.after.lanes lanes t.received (lanes_of_run c lanes shards v.steps v.after v.runs) v.received))
     (told Handed ∙ ap (λ (batches : List (List Arrival)). length (flat_map (λ batch. batch) batches)) (sym v.handed))
     (λ reason. told (Dropped reason) ∙ sym (v.counted reason))
 

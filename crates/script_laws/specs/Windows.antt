@@ -9,7 +9,7 @@ use Rattle.script_run.specs.Laws.{OfEachScript}
 
 -- each asking of a script is granted exactly where the ones before it say so, at its node; and each limiter node of the
 -- policies grants in any stretch of seconds at most what its limit allows
-abbrev pub ScriptGrantsInAnyWindow : Type 0
-ScriptGrantsInAnyWindow = OfEachScript (λ s sizes lanes shards sink after. AreAnsweredAfter s.policies after.askings
+abbrev pub ScriptsGrantInAnyWindow : Type 0
+ScriptsGrantInAnyWindow = OfEachScript (λ s sizes lanes shards sink after. AreAnsweredAfter s.policies after.askings
     × ((node : ℕ) (limit : Limit) → limit_among (limiters s.policies) node ≡ Some limit
     → (first seconds : ℕ) → granted_over first seconds (askings_of node after.askings) ≤ most_over seconds limit))

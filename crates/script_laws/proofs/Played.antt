@@ -1,5 +1,5 @@
 -- What each line of a script asks is answered in turn.
--- For the law `script_grants_in_any_window`.
+-- For the law `scripts_grant_in_any_window`.
 use Rattle.std.proofs.Common.{ℕ, true, List, [], ◌∷◌, inl, inr, sym, subst}
 use Rattle.otlp_types.specs.declared.arrival.Arrival.{Arrival}
 use Rattle.otlp_types.specs.declared.arrival.Item.{Item}
@@ -11,8 +11,8 @@ use Rattle.script_run.specs.World.{ScriptWorld, Sizes, ShardTurn, new_world, ent
 use Rattle.script_run.specs.Requests.{BodyReading, reads, refuses}
 use Rattle.rate_windows.specs.Laws.{AreAnsweredAfter}
 use Rattle.rate_windows.proofs.Windows.{any-window-of-policies}
-use Rattle.replay_windows.specs.Laws.{ScriptGrantsInAnyWindow}
-use Rattle.replay_windows.proofs.Asked.{item_answered}
+use Rattle.script_laws.specs.Windows.{ScriptsGrantInAnyWindow}
+use Rattle.script_laws.proofs.Asked.{item_answered}
 
 -- ---- shards
 
@@ -65,7 +65,7 @@ lines_answered : (s : Settings) (sizes : Sizes) (old : ScriptWorld) (lines : Lis
 lines_answered s sizes old [] new h given = subst (AnswersAll s) (sym h) given
 lines_answered s sizes old (line ∷ lines) new h given = lines_answered s sizes h.0 lines new h.2 (line_answered s sizes old line h.0 h.1 given)
 
-pub script_grants : ScriptGrantsInAnyWindow
-script_grants s sizes lanes shards first played after can up plays =
+pub scripts_grant : ScriptsGrantInAnyWindow
+scripts_grant s sizes lanes shards first played after can up plays =
     let given = lines_answered s sizes (new_world lanes shards first) played after plays tt in
     (given, λ node limit known. any-window-of-policies s.policies after.askings given node limit known)
