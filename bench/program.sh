@@ -1,5 +1,5 @@
 #!/usr/bin/env bash
-# Proves and builds one of the programs that measure, queue_speed, reading_speed or worker_speed, over the kept work of the crates that it stands on
+# Proves and builds one of the programs that measure, queue_speed, reading_speed, condition_speed or worker_speed, over the kept work of the crates that it stands on
 # (tools/prove.py), and leaves it as bench/out/NAME:
 #     bench/program.sh NAME
 # They prove nothing of the product, so they are no crates of the gate: their files end in .in, and no check of the repository reads them.

@@ -6,13 +6,12 @@ usage: hand_on.py
 Its last line is 'N passed, M failed'."""
 
 import http.server
-import socket
 import subprocess
 import threading
 import time
 from pathlib import Path
 
-from collector import Failure, want
+from collector import PATIENCE, free_port, run_checks, tried, want
 
 SCRIPT = Path(__file__).resolve().parent.parent / "examples" / "neighbours" / "hand_on.sh"
 LINES = [f'{{"resourceSpans":[],"line":{number}}}' for number in range(1, 6)]
@@ -65,12 +64,12 @@ class Backend:
 
 def handed(text, url):
     """The end of the script on such an input: its status and the lines on standard error."""
-    ran = subprocess.run([SCRIPT, url], input=text, capture_output=True, text=True, timeout=120, check=False)
+    ran = subprocess.run([SCRIPT, url], input=text, capture_output=True, text=True, timeout=PATIENCE, check=False)
     want("standard output", ran.stdout, "")
     return ran.returncode, ran.stderr.splitlines()
 
 
-def all_are_taken():
+def all_are_taken(_):
     """Each line once, in order, and the report not; the last one without a line feed."""
     backend = Backend()
     want("the end", handed("\n".join(LINES[:3]) + "\n" + REPORT + LINES[3], backend.url), (0, []))
@@ -78,7 +77,7 @@ def all_are_taken():
     backend.end()
 
 
-def sent_again():
+def sent_again(_):
     """No answer, 429, 502, 503 and 504: the same line again, until it is taken, and told once when it begins and ends."""
     backend = Backend([(200, None), (0, None), (429, None), (502, None), (503, None), (504, None)])
     status, said = handed("\n".join(LINES[:3]) + "\n", backend.url)
@@ -90,17 +89,26 @@ def sent_again():
     backend.end()
 
 
-def after_as_long_as_said():
-    """`Retry-After` in seconds, and less than two more; without one, and where it is no number of seconds, a second."""
+def after_as_long_as_said(_):
+    """`Retry-After` in seconds, and less than two more (and three times what the script takes for a line that is taken at once); without one, and where
+    it is no number of seconds, a second. There are three tries."""
+    tried(3, pauses_as_said)
+
+
+def pauses_as_said():
+    """The same, once."""
     backend = Backend([(503, "3"), (503, None), (503, "Fri, 31 Dec 1999 23:59:59 GMT"), (503, "0")])
     want("the status", handed(LINES[0] + "\n", backend.url)[0], 0)
-    for number, (wanted, before, now) in enumerate(zip((3, 1, 1, 1), backend.at, backend.at[1:])):
-        want(f"pause {number} is {wanted} s", wanted <= now - before < wanted + 1.9, True)
     want("how many came", len(backend.at), 5)
+    began = time.monotonic()
+    want("the end of another", handed(LINES[1] + "\n", backend.url), (0, []))
+    more = 1.9 + 3 * (time.monotonic() - began)
+    for number, (wanted, before, now) in enumerate(zip((3, 1, 1, 1), backend.at, backend.at[1:])):
+        want(f"whether pause {number}, {now - before:.2f} s, is {wanted} and less than {more:.2f} more", wanted <= now - before < wanted + more, True)
     backend.end()
 
 
-def left_out():
+def left_out(_):
     """Any other answer: the line is told, counted and passed over; a line that was cut, too."""
     backend = Backend([(400, None), (200, None), (413, None), (500, None), (301, None)])
     cut = LINES[0][:9] + "\n"
@@ -113,47 +121,32 @@ def left_out():
     backend.end()
 
 
-def backend_comes_late():
+def backend_comes_late(_):
     """Nobody is there at first."""
-    with socket.socket() as probe:
-        probe.bind(("127.0.0.1", 0))
-        port = probe.getsockname()[1]
-    ended = []
-    running = threading.Thread(target=lambda: ended.append(handed(LINES[0] + "\n", f"http://127.0.0.1:{port}/v1/traces")))
+    port, ended = free_port(), []
+    running = threading.Thread(target=lambda: ended.append(handed(LINES[0] + "\n", f"http://127.0.0.1:{port}/v1/traces")), daemon=True)
     running.start()
     time.sleep(1.5)
     want("it waits", ended, [])
     backend = Backend(port=port)
-    running.join(60)
+    running.join(PATIENCE)
     want("the status", ended[0][0], 0)
     want("what came", backend.bodies(), LINES[:1])
     backend.end()
 
 
-def wrong_arguments():
+def wrong_arguments(_):
     """No URL, two, and one that is none: it ends, and sends nothing."""
     usage = (2, ["usage: hand_on.sh URL"])
     for words in ([], ["http://127.0.0.1:1/", "x"]):
-        ran = subprocess.run([SCRIPT, *words], input=LINES[0], capture_output=True, text=True, timeout=60, check=False)
+        ran = subprocess.run([SCRIPT, *words], input=LINES[0], capture_output=True, text=True, timeout=PATIENCE, check=False)
         want(f"the end by {words}", (ran.returncode, ran.stderr.splitlines()), usage)
     status, said = handed(LINES[0] + "\n", "nothing://127.0.0.1")
     want("the status", status, 2)
     want("what it says", len(said) == 1 and said[0].startswith("curl: (1) "), True)
 
 
-def main():
-    """Runs the checks."""
-    passed = failed = 0
-    for check in (all_are_taken, sent_again, after_as_long_as_said, left_out, backend_comes_late, wrong_arguments):
-        try:
-            check()
-            passed += 1
-        except (Failure, OSError, IndexError, subprocess.TimeoutExpired) as problem:
-            failed += 1
-            print(f"hand_on/{check.__name__}: {problem}", flush=True)
-    print(f"{passed} passed, {failed} failed")
-    return 1 if failed or not passed else 0
-
+CHECKS = [all_are_taken, sent_again, after_as_long_as_said, left_out, backend_comes_late, wrong_arguments]
 
 if __name__ == "__main__":
-    raise SystemExit(main())
+    run_checks([str(SCRIPT)], CHECKS)

@@ -21,12 +21,12 @@ import tempfile
 import time
 from pathlib import Path
 
-from collector import ALL, Client, Failure, body_of, post, run_checks, want
+from collector import ALL, PATIENCE, Client, body_of, free_port, post, run_checks, until, want
 
 SOURCE = Path(__file__).resolve().parent.parent / "packaging" / "launcher" / "tsc-run.c"
 AT_END = "close_at_end_of_input = true\n"
-# Room for all that a check sends.
-ROOM = "queue_capacity = 16384\n"
+# Room for all that a check sends, which waits until the close.
+ROOM = "queue_capacity = 16384\ndecision_wait_ms = 3600000\n"
 FOLDER = tempfile.TemporaryDirectory()
 MOST = 10000
 # What the check that runs has started.
@@ -54,22 +54,6 @@ def launcher_in(folder):
 def built():
     """The launcher, compiled once."""
     return launcher_in(FOLDER)
-
-
-def free_port():
-    """A port that nobody has."""
-    with socket.socket() as probe:
-        probe.bind(("127.0.0.1", 0))
-        return probe.getsockname()[1]
-
-
-def until(what, holds):
-    """Waits until something holds, for a minute."""
-    for _ in range(3000):
-        if holds():
-            return
-        time.sleep(0.02)
-    raise Failure(f"not within a minute: {what}")
 
 
 class Launched:
@@ -105,7 +89,7 @@ class Launched:
 
         def answers():
             try:
-                socket.create_connection(("127.0.0.1", self.port), timeout=5).close()
+                socket.create_connection(("127.0.0.1", self.port), timeout=PATIENCE).close()
                 return True
             except ConnectionRefusedError:
                 return False
@@ -114,7 +98,7 @@ class Launched:
         return self
 
     def takes_spans(self, count=1000):
-        """So many spans, which then wait for half a minute."""
+        """So many spans, which then wait."""
         self.waiting = count
         self.listens()
         client = Client(self.port)
@@ -134,7 +118,7 @@ class Launched:
     def end(self):
         """The exit status."""
         if self.process is not None:
-            return self.process.wait(timeout=60)
+            return self.process.wait(timeout=PATIENCE)
         until("the end", lambda: os.waitid(os.P_PID, self.pid, os.WEXITED | os.WNOHANG | os.WNOWAIT) is not None)
         return os.waitstatus_to_exitcode(os.waitpid(self.pid, 0)[1])
 
@@ -312,13 +296,13 @@ def statuses(start):
     os.kill(launched.child_of(launched.pid), signal.SIGKILL)
     want("the status behind SIGKILL", launched.end(), 128 + 9)
     words = [built(), "--program", start.program, "/nowhere/config.toml"]
-    refused = subprocess.run(words, stdin=subprocess.DEVNULL, capture_output=True, timeout=60, check=False)
+    refused = subprocess.run(words, stdin=subprocess.DEVNULL, capture_output=True, timeout=PATIENCE, check=False)
     want("a configuration that isn't there", (refused.returncode, refused.stdout), (3, b"tsc: configuration refused: unreadable\n"))
     cases = [(["--program", "/nowhere/tsc", launched.config], 127, b"", b"tsc-run: /nowhere/tsc: No such file or directory\n")]
     usage = b"usage: tsc-run [--program PATH] CONFIG, or tsc-run --health ADDRESS\n"
     cases += [(words, 2, b"", usage) for words in ([], ["--help"], ["--program", "x"], ["a", "b"], ["--program", "x", "y", "z"])]
     for words, *expected in cases:
-        ran = subprocess.run([built(), *words], stdin=subprocess.DEVNULL, capture_output=True, timeout=60, check=False)
+        ran = subprocess.run([built(), *words], stdin=subprocess.DEVNULL, capture_output=True, timeout=PATIENCE, check=False)
         want(f"the end of {words}", [ran.returncode, ran.stdout, ran.stderr], expected)
 
 
@@ -327,7 +311,7 @@ def health(start):
     folder, launcher = tempfile.mkdtemp(dir=FOLDER.name), built()
 
     def looked(address):
-        return subprocess.run([launcher, "--health", address], stdin=subprocess.DEVNULL, capture_output=True, timeout=60, check=False).returncode
+        return subprocess.run([launcher, "--health", address], stdin=subprocess.DEVNULL, capture_output=True, timeout=PATIENCE, check=False).returncode
 
     for address in (f"127.0.0.1:{free_port()}", f"unix:{folder}/admin.sock"):
         want("before the start", looked(address), 1)
@@ -340,12 +324,13 @@ def health(start):
         want(f"at {address!r}", looked(address), 1)
     for answer in (b"HTTP/1.1 503 Service Unavailable\r\n\r\n", b"HTTP/1.1 20", b""):
         with socket.create_server(("127.0.0.1", 0)) as server:
+            server.settimeout(PATIENCE)
             asking = subprocess.Popen([launcher, "--health", f"127.0.0.1:{server.getsockname()[1]}"], stdin=subprocess.DEVNULL)
             connection, _ = server.accept()
             with connection:
                 connection.recv(4096)
                 connection.sendall(answer)
-            want(f"answered {answer!r}", asking.wait(timeout=60), 1)
+            want(f"answered {answer!r}", asking.wait(timeout=PATIENCE), 1)
 
 
 CHECKS = [

@@ -14,7 +14,7 @@ cc -shared -fPIC -O1 -o "$work/dry.so" "$work/dry.c" || failed=1
 printf 'listen = "127.0.0.1:0"\npolicies = [{ name = "all", type = "always_sample" }]\n' > "$work/all.toml"
 for program in "$@"; do
     for command in serve replay; do
-        echo close | LD_PRELOAD="$work/dry.so" timeout 20 "$program" "$command" "$work/all.toml" > "$work/out"
+        echo close | LD_PRELOAD="$work/dry.so" timeout 120 "$program" "$command" "$work/all.toml" > "$work/out"
         ended=$?
         case "$command $ended $(head -n 1 "$work/out")" in
             "serve 5 tsc: no memory" | "replay 0 received 0") passed=$((passed + 1)) ;;

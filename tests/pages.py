@@ -373,7 +373,7 @@ def shown_commands(program):
                 *lines, last = text_of(TOP / "look").splitlines()
                 config, script = re.search(r"=\.\./\.\./(\S+)", last)[1], re.search(r"< \.\./\.\./(\S+)", last)[1]
                 command = "\n".join([*(it for it in lines if it.startswith("echo ")), f'"{program}" replay {config} < {script}'])
-            ran = subprocess.run(["bash", "-c", command], cwd=TOP, capture_output=True, text=True, timeout=120, check=False)
+            ran = subprocess.run(["bash", "-c", command], cwd=TOP, capture_output=True, text=True, timeout=600, check=False)
             yield from differs(at, block[1:], ran.stdout + ran.stderr)
 
 
@@ -411,10 +411,10 @@ def readme_commands(program):
             port, example = free_port(), Path(folder) / "examples/errors.toml"
             example.write_text(f'listen = "127.0.0.1:{port}"\n' + text_of(example), "utf-8")
             commands = commands.replace(":4318/", f":{port}/")
-        waits = f"for _ in {{1..600}}; do (: > /dev/tcp/127.0.0.1/{port}) 2> /dev/null && break; sleep 0.1; done"
+        waits = f"for _ in {{1..1800}}; do (: > /dev/tcp/127.0.0.1/{port}) 2> /dev/null && break; sleep 0.1; done"
         commands = re.sub(r"& sleep 1$", f"& {waits}", commands, flags=re.M)
         script = f'tsc() {{ "{program}" "$@"; }}\n' + commands.replace("curl ", "curl -s ")
-        ran = subprocess.run(["bash", "-c", script], cwd=folder, capture_output=True, text=True, timeout=120, check=False)
+        ran = subprocess.run(["bash", "-c", script], cwd=folder, capture_output=True, text=True, timeout=600, check=False)
         yield from differs("README.md: its collector", ["{}{}" + shown[3], *shown[4:]], ran.stdout)
 
 

@@ -64,7 +64,7 @@ check_refusal() {
 compare() {
     local status=$1 expected=$2 input=$3
     shift 3
-    timeout 60 "$@" < "$input" > "$work/out" 2> "$work/err"
+    timeout 600 "$@" < "$input" > "$work/out" 2> "$work/err"
     got=$?
     [ "$got" -eq "$status" ] || wrong="$wrong; status $got and not $status"
     cmp -s "$expected" "$work/out" || wrong="$wrong; $(difference "$expected" "$work/out")"
@@ -121,7 +121,7 @@ cut_script() {
     local name=$1 config=$2 script=$3 line
     for line in $(seq 0 "$(wc -l < "$script")"); do
         head -n "$line" "$script" > "$work/cut"
-        if timeout 60 "$program" replay "$config" < "$work/cut" > "$work/out" && adds_up "$work/out"; then
+        if timeout 600 "$program" replay "$config" < "$work/cut" > "$work/out" && adds_up "$work/out"; then
             tell "$name" ""
         else
             tell "$name cut after line $line" "it isn't done, or received is not the sum of the other counts"
@@ -414,7 +414,7 @@ no_room() {
 check_full() {
     local name=$1 status=$2 input=$3 got
     shift 3
-    timeout 60 "$program" "$@" < "$input" > /dev/full 2> "$work/err"
+    timeout 600 "$program" "$@" < "$input" > /dev/full 2> "$work/err"
     got=$?
     [ "$got" -eq "$status" ] && tell "$name" "" || tell "$name" "status $got and not $status"
 }

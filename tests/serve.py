@@ -27,7 +27,13 @@ import serve_memory
 import serve_operated
 import serve_output
 import serve_protobuf
-from collector import ALL, ERRORS, ERROR_LINE, ERROR_SPAN, Failure, LeftOut, body_of, post, run_checks, spans_of, want
+from collector import ALL, ERRORS, ERROR_LINE, ERROR_SPAN, PATIENCE, Failure, LeftOut, body_of, comes_to, post, run_checks, spans_of, tried, until, want
+
+
+def printed_by(collector):
+    """What it has printed so far."""
+    with open(collector.printed, encoding="utf-8") as file:
+        return file.read()
 
 
 def one_error(start):
@@ -35,8 +41,7 @@ def one_error(start):
     collector = start("decision_wait_ms = 50\ntick_ms = 60000\n" + ERRORS)
     want("the answer", collector.ask(post(body_of([ERROR_SPAN])))[::2], (200, "{}"))
     time.sleep(2)
-    with open(collector.printed, encoding="utf-8") as file:
-        want("the output before a tick", file.read(), "")
+    want("the output before a tick", printed_by(collector), "")
     lines, numbers = collector.close()
     want("the lines", lines, [ERROR_LINE])
     want("the report", numbers, [1, 1, 0, 0, 0, 0, 0, 0, 0])
@@ -57,7 +62,12 @@ def serve_on_loopback(start):
 
 def asks_behind_the_close(start):
     """A request of which the first half came before the close, and the rest just behind it, is refused; one that comes whole on an idle connection is
-    refused, or the connection is ended. Neither is counted."""
+    refused, or the connection is ended. Neither is counted. (The rest may take a second, which a machine that stands still may miss.)"""
+    tried(5, lambda: ask_behind_the_close(start))
+
+
+def ask_behind_the_close(start):
+    """The same, once."""
     collector = start("lanes = 2\n" + ALL)
     silent, closing, late, idle = (collector.client() for _ in range(4))
     request = post(body_of([ERROR_SPAN]))
@@ -85,13 +95,7 @@ def is_kept_while_it_runs(start):
     """A trace is decided by a tick, long before the close."""
     collector = start("decision_wait_ms = 200\ntick_ms = 50\n" + ERRORS)
     want("the answer", collector.ask(post(body_of([ERROR_SPAN])))[::2], (200, "{}"))
-    for _ in range(1200):
-        with open(collector.printed, encoding="utf-8") as file:
-            if file.read() == ERROR_LINE + "\n":
-                break
-        time.sleep(0.05)
-    else:
-        raise Failure("no line came within a minute")
+    comes_to("the output", lambda: printed_by(collector), ERROR_LINE + "\n")
     lines, numbers = collector.close()
     want("the lines", lines, [ERROR_LINE])
     want("the report", numbers, [1, 1, 0, 0, 0, 0, 0, 0, 0])
@@ -204,7 +208,7 @@ def many_clients(start):
     sent, problems, threads = [], [], []
     for client_number in range(16):
         arguments = (collector, client_number, 125, 25, sent, problems)
-        threads.append(threading.Thread(target=sends, args=arguments))
+        threads.append(threading.Thread(target=sends, args=arguments, daemon=True))
     for thread in threads:
         thread.start()
     for thread in threads:
@@ -253,7 +257,7 @@ def queues_of_four(start):
     rejected, problems, threads = [], [], []
     for client_number, requests in enumerate((834, 833, 833)):
         arguments = (collector, client_number, requests, rejected, problems)
-        threads.append(threading.Thread(target=sends_to_four_traces, args=arguments))
+        threads.append(threading.Thread(target=sends_to_four_traces, args=arguments, daemon=True))
     for thread in threads:
         thread.start()
     for thread in threads:
@@ -290,20 +294,16 @@ def closes_under_way(start):
         except (Failure, OSError):
             return
 
-    threads = [threading.Thread(target=go_on, args=(place,)) for place in range(6)]
+    threads = [threading.Thread(target=go_on, args=(place,), daemon=True) for place in range(6)]
     for thread in threads:
         thread.start()
     # Not a while: a machine may need it to lay out the queues.
-    until = time.monotonic() + 60
-    while sum(answered) < 100 and time.monotonic() < until:
-        time.sleep(0.02)
+    until("a hundred answers", lambda: sum(answered) >= 100)
     want("the answer to /close", collector.ask(post(b"", "/close"))[::2], (200, "{}"))
     lines, numbers = collector.end()
     halt.set()
     for thread in threads:
         thread.join()
-    if sum(answered) == 0:
-        raise Failure("no request was answered before the close")
     if numbers[0] < sum(answered):
         raise Failure(f"{numbers[0]} spans received, but {sum(answered)} answered")
     want("the spans handed over", len(spans_of(lines)), numbers[1])
@@ -315,7 +315,7 @@ def refused_address(start):
         config = os.path.join(folder, "config.toml")
         with open(config, "w", encoding="utf-8") as file:
             file.write('log = "off"\nlisten = "x"\n' + ALL)
-        done = subprocess.run([start.program, "serve", config], stdin=subprocess.DEVNULL, capture_output=True, timeout=60, check=False)
+        done = subprocess.run([start.program, "serve", config], stdin=subprocess.DEVNULL, capture_output=True, timeout=PATIENCE, check=False)
         want("the end", (done.returncode, done.stdout, done.stderr), (6, b"tsc: cannot listen\n", b""))
 
 
@@ -340,7 +340,7 @@ def under_curl(start):
     ways = [[], ["-H", "Transfer-Encoding: chunked"], ["-H", "Expect: 100-continue"]]
     for way in ways:
         command = ["curl", "-sS", "-H", "Content-Type: application/json", *way, "--data-binary", body_of([ERROR_SPAN]).decode(), url]
-        done = subprocess.run(command, capture_output=True, timeout=60, check=False)
+        done = subprocess.run(command, capture_output=True, timeout=PATIENCE, check=False)
         want(f"curl {way}", (done.returncode, done.stdout, done.stderr), (0, b"{}", b""))
     want("the report", collector.close()[1], [3, 3, 0, 0, 0, 0, 0, 0, 0])
 

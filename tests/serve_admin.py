@@ -7,43 +7,13 @@ import subprocess
 import tempfile
 import time
 
-from collector import ALL, ERROR_SPAN, Client, Failure, body_of, post, spans_of, want
+from collector import ALL, ERROR_SPAN, PATIENCE, Client, Failure, asked, body_of, comes_to, free_port, get, post, scrape, spans_of, tried, want
 from serve_limits import at_most, side_by_side, spans_by_number
 
 COUNTS = ["tsc_spans_received_total", "tsc_spans_handed_total"] + [
     f'tsc_spans_dropped_total{{reason="{reason}"}}'
     for reason in ("invalid_id", "queue_full", "no_memory", "evicted", "not_sampled", "late_not_sampled", "exporter_down")
 ]
-
-
-def free_port():
-    """A port that nobody listens at."""
-    with socket.socket() as probe:
-        probe.bind(("127.0.0.1", 0))
-        return probe.getsockname()[1]
-
-
-def get(path, method="GET"):
-    """The bytes of a request without a body."""
-    return f"{method} {path} HTTP/1.1\r\nHost: collector\r\n\r\n".encode()
-
-
-def asked(port, data, has_body=True):
-    """One request on a connection of its own, which ends behind the answer."""
-    client = Client(port)
-    client.send(data)
-    answer = client.answer(has_body)
-    want("what follows the answer", client.rest(), b"")
-    client.close()
-    return answer
-
-
-def scrape(port):
-    """The numbers that the text of `/metrics` tells, by their names."""
-    status, fields, text = asked(port, get("/metrics"))
-    want("the status of /metrics", (status, fields["content-type"]), (200, "text/plain; version=0.0.4; charset=utf-8"))
-    samples = [line for line in text.split("\n") if line and not line.startswith("#")]
-    return {name: int(value) for name, value in (line.rsplit(" ", 1) for line in samples)}
 
 
 def decided_of(numbers, policy):
@@ -58,7 +28,7 @@ def late_of(numbers):
 
 def in_charge(start):
     """The second address tells health, numbers and configuration, and closes; the first one doesn't close any more."""
-    admin = free_port()
+    admin, began = free_port(), time.monotonic()
     collector = start(f'admin = "127.0.0.1:{admin}"\ndecision_wait_ms = 50\ntick_ms = 50\n' + ALL)
     want("health", asked(admin, get("/healthz"))[::2], (200, "ok\n"))
     want("the configuration", asked(admin, get("/config"))[0], 200)
@@ -66,20 +36,17 @@ def in_charge(start):
     requests = [post(b"", "/close"), post(body_of([ERROR_SPAN, {"traceId": "x", "spanId": "y"}]))]
     want("/close at the first address", collector.ask(requests[0])[::2], (404, '{"message":"not found"}'))
     want("the answer", collector.ask(requests[1])[0], 200)
-    for _ in range(400):
-        numbers = scrape(admin)
-        if numbers["tsc_spans_handed_total"]:
-            break
-        time.sleep(0.05)
-    want("the numbers", [numbers[name] for name in COUNTS], [2, 1, 1, 0, 0, 0, 0, 0, 0])
+    told = lambda *names: [numbers[name] for numbers in [scrape(admin)] for name in names]
+    comes_to("the numbers", lambda: told(*COUNTS), [2, 1, 1, 0, 0, 0, 0, 0, 0])
     codes = ["200", "400", "404", "405", "408", "413", "415", "431", "503"]
-    want("the answers", [numbers[f'tsc_requests_total{{code="{code}"}}'] for code in codes], [1, 0, 1, 0, 0, 0, 0, 0, 0])
-    want("the bytes that came", numbers["tsc_received_bytes_total"], sum(len(data) for data in requests))
-    want("the output", [numbers["tsc_lines_total"], numbers["tsc_output_bytes_total"]], [1, os.path.getsize(collector.printed)])
-    want("what waits", numbers["tsc_spans_waiting"], 0)
-    want("the decisions", decided_of(numbers, "all"), [1, 0, 0, 0])
+    comes_to("the answers", lambda: told(*(f'tsc_requests_total{{code="{code}"}}' for code in codes)), [1, 0, 1, 0, 0, 0, 0, 0, 0])
+    comes_to("the bytes that came", lambda: told("tsc_received_bytes_total"), [sum(len(data) for data in requests)])
+    comes_to("the output", lambda: told("tsc_lines_total", "tsc_output_bytes_total"), [1, os.path.getsize(collector.printed)])
+    comes_to("what waits", lambda: told("tsc_spans_waiting"), [0])
+    comes_to("the decisions", lambda: decided_of(scrape(admin), "all"), [1, 0, 0, 0])
+    numbers = scrape(admin)
     want("late spans", late_of(numbers), [0, 0])
-    if numbers["tsc_uptime_seconds"] > 60 or numbers['tsc_build_info{version="0.1.0"}'] != 1 or not 100 < numbers["tsc_sent_bytes_total"] < 1000:
+    if numbers["tsc_uptime_seconds"] > time.monotonic() - began + 1 or numbers['tsc_build_info{version="0.1.0"}'] != 1 or not 100 < numbers["tsc_sent_bytes_total"] < 1000:
         raise Failure(f"the other numbers: {numbers}")
     if not 1 << 20 < numbers["process_resident_memory_bytes"] < 1 << 30:
         raise Failure(f"the memory that it takes: {numbers}")
@@ -147,19 +114,10 @@ def told_by_shards(start):
     want("the report", collector.end()[1], [120, 25, 0, 0, 0, 0, 85, 10, 0])
 
 
-def comes_to(what, told, wanted):
-    """Waits until these numbers are told."""
-    for _ in range(100):
-        if told() == wanted:
-            return
-        time.sleep(0.1)
-    want(what, told(), wanted)
-
-
 def asked_at_a_socket(path, data):
     """The answer to one request at a socket's file, and what follows."""
     with socket.socket(socket.AF_UNIX) as peer:
-        peer.settimeout(60)
+        peer.settimeout(PATIENCE)
         peer.connect(path)
         peer.sendall(data)
         got = b""
@@ -183,38 +141,28 @@ def in_charge_by_a_socket(start):
         other = os.path.join(folder, "other.toml")
         with open(other, "w", encoding="utf-8") as file:
             file.write(f'listen = "127.0.0.1:0"\nadmin = "unix:{path}"\n' + ALL)
-        ran = subprocess.run([start.program, "serve", other], stdin=subprocess.DEVNULL, capture_output=True, timeout=60, check=False)
+        ran = subprocess.run([start.program, "serve", other], stdin=subprocess.DEVNULL, capture_output=True, timeout=PATIENCE, check=False)
         want("a second one there", (ran.returncode, ran.stdout), (6, b"tsc: cannot listen\n"))
         want("health behind it", asked_at_a_socket(path, get("/healthz")), (200, b"ok\n"))
         want("the answer", collector.ask(post(body_of([ERROR_SPAN])))[0], 200)
         command = [start.program, "close", os.path.join(collector.folder.name, "config.toml")]
-        ran = subprocess.run(command, stdin=subprocess.DEVNULL, capture_output=True, timeout=60, check=False)
+        ran = subprocess.run(command, stdin=subprocess.DEVNULL, capture_output=True, timeout=PATIENCE, check=False)
         want("what `tsc close` says", (ran.returncode, ran.stdout, ran.stderr), (0, b"", b""))
         want("the report", collector.end()[1], [1, 1, 0, 0, 0, 0, 0, 0, 0])
         want("what is left", sorted(os.listdir(folder)), ["other.toml"])
-        ran = subprocess.run(command, stdin=subprocess.DEVNULL, capture_output=True, timeout=60, check=False)
+        ran = subprocess.run(command, stdin=subprocess.DEVNULL, capture_output=True, timeout=PATIENCE, check=False)
         want("`tsc close` where there is none", (ran.returncode, ran.stdout), (6, b"tsc: cannot close\n"))
 
 
 def numbers_alone(start):
-    """Numbers and health alone are told at `metrics`, within ten seconds while a hundred clients say nothing there; whatever else is asked isn't
-    found. Silent ones don't hold up `admin` either."""
+    """Numbers and health alone are told at `metrics`, within ten seconds while a hundred clients say nothing there (in one of three tries, of which a
+    machine that stands still may spoil two); whatever else is asked isn't found. Silent ones don't hold up `admin` either."""
     admin, metrics = free_port(), free_port()
     collector = start(f'admin = "127.0.0.1:{admin}"\nmetrics = "127.0.0.1:{metrics}"\ndecision_wait_ms = 50\ntick_ms = 50\n' + ALL)
     want("the answer", collector.ask(post(body_of([ERROR_SPAN])))[0], 200)
     comes_to("what is handed over", lambda: scrape(metrics)["tsc_spans_handed_total"], 1)
     for port in (metrics, admin):
-        silent = [Client(port) for _ in range(100)]
-        for _ in range(5):
-            began = time.monotonic()
-            want("the spans behind a hundred silent ones", scrape(port)["tsc_spans_received_total"], 1)
-            at_most("the wait behind a hundred silent ones", 10, began)
-        began = time.monotonic()
-        want("the health behind them", asked(port, get("/healthz"))[::2], (200, "ok\n"))
-        at_most("the wait for the health", 10, began)
-        want("the first, which was let go for others", silent[0].rest(), b"")
-        for client in silent:
-            client.close()
+        tried(3, lambda at=port: behind_silent_ones(at))
     foreign = "Origin: http://evil.example"
     for data in (get("/config"), get("/close"), post(b"", "/close"), post(b"", "/reopen"), get("/reopen"), post(b"", "/close", fields=[foreign]), get("/")):
         want(f"the answer to {data[:14]!r} at metrics", asked(metrics, data)[::2], (404, '{"message":"not found"}'))
@@ -223,6 +171,21 @@ def numbers_alone(start):
         want(f"the answer to {data[:14]!r} at metrics", (got[0], got[1]["allow"]), (405, "get"))
     want("the answer to /close", asked(admin, post(b"", "/close"))[::2], (200, "{}"))
     want("the report", collector.end()[1], [1, 1, 0, 0, 0, 0, 0, 0, 0])
+
+
+def behind_silent_ones(port):
+    """Numbers and health are told within ten seconds behind a hundred who say nothing."""
+    silent = [Client(port) for _ in range(100)]
+    for _ in range(5):
+        began = time.monotonic()
+        want("the spans behind a hundred silent ones", scrape(port)["tsc_spans_received_total"], 1)
+        at_most("the wait behind a hundred silent ones", 9, began)
+    began = time.monotonic()
+    want("the health behind them", asked(port, get("/healthz"))[::2], (200, "ok\n"))
+    at_most("the wait for the health", 9, began)
+    want("the first, which was let go for others", silent[0].rest(), b"")
+    for client in silent:
+        client.close()
 
 
 def numbers_by_a_socket(start):
@@ -238,7 +201,7 @@ def numbers_by_a_socket(start):
         other = os.path.join(folder, "other.toml")
         with open(other, "w", encoding="utf-8") as file:
             file.write(f'listen = "127.0.0.1:0"\nlog = "text"\nadmin = "unix:{folder}/other.sock"\nmetrics = "unix:{paths[1]}"\n' + ALL)
-        ran = subprocess.run([start.program, "serve", other], stdin=subprocess.DEVNULL, capture_output=True, timeout=60, check=False)
+        ran = subprocess.run([start.program, "serve", other], stdin=subprocess.DEVNULL, capture_output=True, timeout=PATIENCE, check=False)
         want("a second one there", (ran.returncode, ran.stdout), (6, b"tsc: cannot listen\n"))
         want("that the log names it", f'ERROR cannot_listen what="unix:{paths[1]}"'.encode() in ran.stderr, True)
         want("what is there behind it", sorted(os.listdir(folder)), ["admin.sock", "metrics.sock", "other.toml"])
@@ -264,17 +227,18 @@ def asks_to_reopen(start):
 
 
 def slow_questions(start):
-    """One who sends a byte now and then is let go after ten seconds in all."""
+    """One who sends a byte now and then is let go after ten seconds in all (forty at most)."""
     admin = free_port()
     collector = start(f'admin = "127.0.0.1:{admin}"\n' + ALL)
-    client, began = Client(admin), time.monotonic()
+    began = time.monotonic()
+    client = Client(admin)
     try:
-        for _ in range(100):
+        while time.monotonic() - began < 60:
             client.send(b"G")
             time.sleep(0.3)
     except OSError:
         pass
-    if not 9 < time.monotonic() - began < 15:
+    if not 9 < time.monotonic() - began < 40:
         raise Failure(f"it was let go after {time.monotonic() - began:.1f} seconds")
     client.close()
     want("the answer to /close", asked(admin, post(b"", "/close"))[::2], (200, "{}"))
@@ -359,7 +323,7 @@ def counts_only_rise(start):
         began = time.monotonic()
         while not seen or not seen[-1][0] == sum(seen[-1][1:]) == 8000:
             seen.append([scrape(admin)[name] for name in COUNTS])
-            at_most("the time until all is received and counted", 120, began)
+            at_most("the time until all is received and counted", 2 * PATIENCE, began)
 
     def asks(at):
         client = collector.client()
@@ -384,7 +348,7 @@ def taken_addresses(start):
     other = os.path.join(collector.folder.name, "other.toml")
     with open(other, "w", encoding="utf-8") as file:
         file.write(f'listen = "127.0.0.1:0"\nadmin = "127.0.0.1:{collector.port}"\n' + ALL)
-    ran = subprocess.run([start.program, "serve", other], stdin=subprocess.DEVNULL, capture_output=True, timeout=60, check=False)
+    ran = subprocess.run([start.program, "serve", other], stdin=subprocess.DEVNULL, capture_output=True, timeout=PATIENCE, check=False)
     want("the end", (ran.returncode, ran.stdout), (6, b"tsc: cannot listen\n"))
     collector.close()
 
@@ -392,7 +356,6 @@ def taken_addresses(start):
 def full_queues_are_asked_again(start):
     """Ten thousand requests from eight clients on queues of four, each sent again where it was answered 503: nothing is lost."""
     collector = start('queue_full = "retry"\nqueue_capacity = 4\nexport_capacity = 4\nlanes = 4\nshards = 2\n' + ALL)
-    again = []
 
     def asks(at):
         client = collector.client()
@@ -406,7 +369,7 @@ def full_queues_are_asked_again(start):
                     want("the body", text, "{}")
                     break
                 want("the refusal", (status, fields["retry-after"], text), (503, "1", '{"message":"busy"}'))
-                again.append(at)
+                time.sleep(0.001)  # (so that shards on the same processor get on)
         client.close()
 
     side_by_side(asks, range(8))
@@ -446,8 +409,8 @@ def output_that_fails(start):
         else:
             want("the refusal", answer, (503, '{"message":"closing"}'))
             is_refused = True
-    want("the status", collector.process.wait(timeout=60), 1)
-    at_most("the end", 30, began)
+    want("the status", collector.process.wait(timeout=PATIENCE), 1)
+    at_most("the end", 90, began)
 
 
 def closed_by_its_configuration(start):
@@ -456,10 +419,10 @@ def closed_by_its_configuration(start):
         collector = start(settings)
         want("the answer", collector.ask(post(body_of([ERROR_SPAN])))[0], 200)
         command = [start.program, "close", os.path.join(collector.folder.name, "config.toml")]
-        ran = subprocess.run(command, stdin=subprocess.DEVNULL, capture_output=True, timeout=60, check=False)
+        ran = subprocess.run(command, stdin=subprocess.DEVNULL, capture_output=True, timeout=PATIENCE, check=False)
         want("what it says", (ran.returncode, ran.stdout, ran.stderr), (0, b"", b""))
         want("the report", collector.end()[1], [1, 1, 0, 0, 0, 0, 0, 0, 0])
-        ran = subprocess.run(command, stdin=subprocess.DEVNULL, capture_output=True, timeout=60, check=False)
+        ran = subprocess.run(command, stdin=subprocess.DEVNULL, capture_output=True, timeout=PATIENCE, check=False)
         want("what it says where there is none", (ran.returncode, ran.stdout), (6, b"tsc: cannot close\n"))
 
 
@@ -484,7 +447,7 @@ def input_that_fails(start):
             file.write('log = "off"\nlisten = "127.0.0.1:0"\nclose_at_end_of_input = true\n' + ALL)
         unreadable = os.open(folder, os.O_RDONLY)  # (a folder: each read of it fails)
         try:
-            ran = subprocess.run([start.program, "serve", config], stdin=unreadable, capture_output=True, timeout=60, check=False)
+            ran = subprocess.run([start.program, "serve", config], stdin=unreadable, capture_output=True, timeout=PATIENCE, check=False)
         finally:
             os.close(unreadable)
         want("the end", (ran.returncode, ran.stdout.split(b"\n")[0], ran.stderr), (0, b"received 0", b""))

@@ -7,15 +7,15 @@ import tempfile
 import threading
 import time
 
-from collector import ALL, ERROR_SPAN, Client, Failure, body_of, post, want
-from serve_admin import free_port
+from collector import ALL, ERROR_SPAN, PATIENCE, Client, Failure, body_of, free_port, post, want
+from serve_export import Backend
 
 CANNOT = (6, b"tsc: cannot close\n", b"")
 
 
 def said(start, config):
     """The end of `tsc close` by a file: its status and what it wrote."""
-    done = subprocess.run([start.program, "close", config], stdin=subprocess.DEVNULL, capture_output=True, timeout=120, check=False)
+    done = subprocess.run([start.program, "close", config], stdin=subprocess.DEVNULL, capture_output=True, timeout=PATIENCE, check=False)
     return done.returncode, done.stdout, done.stderr
 
 
@@ -48,18 +48,19 @@ def answers_otherwise(start):
     """One who listens and answers otherwise, in part, or nothing before it ends the connection: it isn't said that a collector closes."""
     for answer in (b"HTTP/1.1 404 Not Found\r\n\r\n", b"HTTP/1.1 20", b""):
         with socket.create_server(("127.0.0.1", 0)) as server:
+            server.settimeout(PATIENCE)
             asked = []
 
             def serve():
                 connection, _ = server.accept()
                 with connection:
-                    data = b""
-                    while not data.endswith(b"\r\n\r\n"):
-                        data += connection.recv(4096)
+                    data = connection.recv(4096)
+                    while not data.endswith(b"\r\n\r\n") and (more := connection.recv(4096)):
+                        data += more
                     asked.append(data)
                     connection.sendall(answer)
 
-            thread = threading.Thread(target=serve)
+            thread = threading.Thread(target=serve, daemon=True)
             thread.start()
             end = said_by(start, f'listen = "127.0.0.1:{server.getsockname()[1]}"\n' + ALL)
             thread.join()
@@ -68,45 +69,47 @@ def answers_otherwise(start):
 
 
 def end_of_a_client(collector):
-    """How a client that connects now ends: `taken`, `closing`, or what else it is."""
+    """How a client that connects now ends: `taken`, `closing`, or what else it is; and from when until when it was there."""
+    began = time.monotonic()
     try:
         connection = Client(collector.port)
-    except ConnectionRefusedError:
-        return "nobody"
-    try:
         connection.send(post(body_of([])))
         status, _, body = connection.answer()
-        return "taken" if (status, body) == (200, "{}") else "closing" if (status, body) == (503, '{"message":"closing"}') else (status, body)
-    except (OSError, Failure) as error:
-        return f"cut off: {error!r}"
-    finally:
         connection.close()
+        end = "taken" if (status, body) == (200, "{}") else "closing" if (status, body) == (503, '{"message":"closing"}') else (status, body)
+    except (OSError, Failure) as error:
+        end = f"cut off: {error!r}"
+    return end, began, time.monotonic()
 
 
 def clients_as_it_closes(start):
     """Forty clients who connect from just before a close until a second and a half behind it are all answered, by 200 or by 503 `closing`, and at
-    least three by this; none is cut off. A backend that is away keeps the collector closing for six seconds. (Who connects just as it ends may be cut
-    off, and isn't looked at; nor is a client that a slow machine brings four seconds behind the first.)"""
-    away = f'[export]\nendpoint = "http://127.0.0.1:{free_port()}/v1/traces"\nclose_wait_ms = 6000\n'
-    collector = start(ALL + away)
+    least three by this; none is cut off, but for those who are there just as the close is asked for and answered, whose connections may be ended as
+    idle ones. A backend that is away until then keeps the collector closing."""
+    backend = Backend(listens=False)
+    collector = start(ALL + backend.settings("close_wait_ms = 600000\nretry_max_ms = 500\n"))
     want("the answer", collector.ask(post(body_of([ERROR_SPAN])))[::2], (200, "{}"))
-    ends, began = [], time.monotonic()
+    ends = []
 
     def ask(after):
         time.sleep(after)
-        if time.monotonic() - began < 4:
-            ends.append(end_of_a_client(collector))
+        ends.append(end_of_a_client(collector))
 
-    threads = [threading.Thread(target=ask, args=(number * 0.0425,)) for number in range(40)]
+    threads = [threading.Thread(target=ask, args=(number * 0.0425,), daemon=True) for number in range(40)]
     for thread in threads:
         thread.start()
     time.sleep(0.2)
+    closing = time.monotonic()
     want("the close", collector.ask(post(b"", "/close"))[0], 200)
+    closed = time.monotonic()
     for thread in threads:
         thread.join()
+    backend.listen()
     collector.end()
-    want("how else a client ended", [it for it in ends if it not in ("taken", "closing")], [])
-    want(f"whether three or more of {ends} were told that it closes", ends.count("closing") >= 3, True)
+    others = [end for end, came, went in ends if end not in ("taken", "closing") and (came > closed or went < closing)]
+    want("how else a client ended", others, [])
+    told = [end for end, _, _ in ends].count("closing")
+    want(f"whether {told} of {len(ends)} who were told that it closes are three or more", told >= 3, True)
 
 
 CHECKS = [not_closed_at_requests, nothing_to_close, answers_otherwise, clients_as_it_closes]

@@ -5,8 +5,7 @@ import re
 import subprocess
 import tomllib
 
-from collector import ALL, want
-from serve_admin import asked, free_port, get
+from collector import ALL, PATIENCE, asked, free_port, get, want
 from settings import PAGE, TOP, cache_numbers, export_numbers, export_truths, other_names, page_empty_texts, page_numbers
 
 CACHES, ROOT_WAIT = "decision_cache", "root_wait_ms"
@@ -49,7 +48,7 @@ def validated(program, folder, text):
     path = os.path.join(folder, "told.toml")
     with open(path, "w", encoding="utf-8") as file:
         file.write(text)
-    ran = subprocess.run([program, "validate", path], stdin=subprocess.DEVNULL, capture_output=True, timeout=60, check=False)
+    ran = subprocess.run([program, "validate", path], stdin=subprocess.DEVNULL, capture_output=True, timeout=PATIENCE, check=False)
     return ran.returncode, ran.stdout, ran.stderr
 
 

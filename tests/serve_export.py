@@ -10,16 +10,16 @@ import struct
 import threading
 import time
 
-from collector import ALL, Failure, body_of, post, want
-from serve_admin import asked, free_port, get, scrape
-from serve_limits import at_most
+from collector import ALL, PATIENCE, Failure, asked, body_of, comes_to, free_port, get, post, scrape, tried, until, want
+from serve_admin import COUNTS
+from serve_limits import at_most, side_by_side
 
 OK = b"HTTP/1.1 200 OK\r\nContent-Type: application/json\r\nContent-Length: 2\r\n\r\n{}"
 FAST = "decision_wait_ms = 50\ntick_ms = 20\n"
 # How long a line is waited for where a check doesn't say it: a backend that stalls for a while isn't asked twice.
-WAITS = "timeout_ms = 20000\nretry_initial_ms = 50\nretry_max_ms = 200\nclose_wait_ms = 5000\n"
+WAITS = "timeout_ms = 60000\nretry_initial_ms = 50\nretry_max_ms = 200\nclose_wait_ms = 60000\n"
 # The same where an attempt is to end for want of an answer.
-SHORT = WAITS.replace("20000", "1000")
+SHORT = WAITS.replace("timeout_ms = 60000", "timeout_ms = 1000")
 
 
 def answer(status, fields="", body=b"{}"):
@@ -37,12 +37,23 @@ def ids_in(body):
     return [s["spanId"] for r in json.loads(body)["resourceSpans"] for g in r["scopeSpans"] for s in g["spans"]]
 
 
+def with_more(connection, left, is_enough):
+    """What was left and what came behind it until it is enough; nothing where the connection ended before."""
+    while not is_enough(left):
+        more = connection.recv(65536)
+        if not more:
+            return b""
+        left += more
+    return left
+
+
 class Backend:
     """A backend with a script. A step is a list of the pieces of an answer, a tuple of those behind which it ends the connection, a number of
-    bytes of the body after which it resets the connection, or a wait in seconds before it answers 200."""
+    bytes of the body after which it resets the connection, a wait in seconds before it answers 200, or what makes an answer of a body. `whole` counts
+    the answers that were sent to their end."""
 
     def __init__(self, script=(), listens=True):
-        self.script, self.requests, self.taken, self.times = list(script), [], [], []
+        self.script, self.requests, self.taken, self.times, self.whole = list(script), [], [], [], 0
         self.lock = threading.Lock()
         self.listener = socket.socket()
         self.listener.setsockopt(socket.SOL_SOCKET, socket.SO_REUSEADDR, 1)
@@ -69,30 +80,27 @@ class Backend:
         """Answers the requests of a connection."""
         left = b""
         try:
-            while True:
-                while b"\r\n\r\n" not in left:
-                    more = connection.recv(65536)
-                    if not more:
-                        return
-                    left += more
+            while left := with_more(connection, left, lambda it: b"\r\n\r\n" in it):
                 head, left = left.split(b"\r\n\r\n", 1)
                 fields = dict(line.lower().split(": ", 1) for line in head.decode().split("\r\n")[1:])
                 with self.lock:
                     step = self.script.pop(0) if self.script else [OK]
                 length = int(fields["content-length"])
-                stop = step if isinstance(step, int) else length
-                while len(left) < min(stop, length):
-                    left += connection.recv(65536)
+                stop = min(step, length) if isinstance(step, int) else length
+                left = with_more(connection, left, lambda it, wanted=stop: len(it) >= wanted)
                 if isinstance(step, int):
                     connection.setsockopt(socket.SOL_SOCKET, socket.SO_LINGER, struct.pack("ii", 1, 0))
                     return
+                if not left:
+                    return
                 body, left = left[:length], left[length:]
                 with self.lock:
-                    self.requests.append((head.decode(), body))
                     self.times.append(time.monotonic())
+                    self.requests.append((head.decode(), body))
                 if isinstance(step, float):
                     time.sleep(step)
                     step = [OK]
+                step = [step(body)] if callable(step) else step
                 whole = b"".join(step)
                 if b" 200 " in whole and b"\r\n\r\n" in whole:
                     with self.lock:
@@ -100,6 +108,7 @@ class Backend:
                 for piece in step:
                     connection.sendall(piece, socket.MSG_NOSIGNAL)
                     time.sleep(0.01 if len(step) > 1 else 0)
+                self.whole += 1
                 if isinstance(step, tuple) or b"Connection: close" in whole:
                     return
         except OSError:
@@ -115,15 +124,6 @@ class Backend:
 def send(collector, first, count=1):
     """Spans in one request."""
     want("the answer", collector.ask(post(body_of([span(i) for i in range(first, first + count)])))[::2], (200, "{}"))
-
-
-def until(what, test, seconds=20):
-    """Waits until something holds."""
-    for _ in range(seconds * 50):
-        if test():
-            return
-        time.sleep(0.02)
-    raise Failure(f"{what}: not within {seconds} seconds")
 
 
 def delivers(start):
@@ -201,7 +201,7 @@ def tries_again(start):
     script = [[answer(503, "Retry-After: 1\r\n")], [answer(429)], [answer(502)], [answer(504)], 10, [OK[:20]], [b"unasked"]]
     script += [[b"HTTP/1.1 100 Continue\r\n\r\n", OK], chunked, [OK.replace(b"\r\n\r\n", b"\r\nConnection: close\r\n\r\n")], [OK[at : at + 4] for at in range(0, len(OK), 4)]]
     backend = Backend(script)
-    collector = start(FAST + ALL + backend.settings(WAITS.replace("20000", "5000")))
+    collector = start(FAST + ALL + backend.settings(WAITS.replace("timeout_ms = 60000", "timeout_ms = 10000")))
     for number in range(5):
         send(collector, number)
         until("the line", lambda n=number: len(backend.taken) >= n + 1)
@@ -233,7 +233,7 @@ def no_answers(start):
     script += [(b"HTTP/1.0 200 OK\r\n\r\n{}",)]
     tries = len(script)
     backend = Backend(script)
-    waits = "timeout_ms = 20000\nretry_initial_ms = 1\nretry_max_ms = 1\n"
+    waits = "timeout_ms = 60000\nretry_initial_ms = 1\nretry_max_ms = 1\nclose_wait_ms = 60000\n"
     collector = start(FAST + ALL + backend.settings(waits))
     send(collector, 0)
     until("the tries", lambda: len(backend.requests) == tries)
@@ -255,12 +255,17 @@ def gives_up(start):
 
 def rejected_spans(start):
     """Spans that the backend took and rejected are told apart, and no line is sent again for them."""
-    partly = b'{"partialSuccess":{"rejectedSpans":"2","errorMessage":"no"}}'
-    backend, admin = Backend([[answer(200, body=partly)], [answer(200, body=partly.replace(b'"2"', b"1"))]]), free_port()
+
+    def partly(body):
+        # Spans of one request may come in several lines: of those of the first two requests three are rejected in all.
+        rejected = len({f"{number + 1:016x}" for number in (0, 3, 10)} & set(ids_in(body)))
+        return answer(200, body=b'{"partialSuccess":{"rejectedSpans":"%d","errorMessage":"no"}}' % rejected)
+
+    backend, admin = Backend([partly] * 15), free_port()
     collector = start(FAST + ALL + f'admin = "127.0.0.1:{admin}"\n' + backend.settings())
     for number in range(3):
         send(collector, 10 * number, 5)
-        until("the request", lambda n=number: len(backend.requests) >= n + 1)
+        until("the spans", lambda n=number: sum(len(ids_in(body)) for body in backend.taken) == 5 * n + 5)
     until("the numbers", lambda: scrape(admin)["tsc_spans_rejected_total"] == 3)
     want("the answer to /close", asked(admin, post(b"", "/close"))[::2], (200, "{}"))
     want("the report", collector.end()[1], [15, 15, 0, 0, 0, 0, 0, 0, 0])
@@ -289,22 +294,27 @@ def late_answer(start):
 
 
 def patience_ends(start):
-    """A line that is not taken within `retry_for_ms` is given up, after three tries or more; so is one at the close, behind `close_wait_ms`."""
+    """A line that is not taken within `retry_for_ms` is given up, after three tries or more; so is one at the close, behind `close_wait_ms`. (A machine
+    that stands still for three seconds may leave less: there are three lines.)"""
     waits = "timeout_ms = 5000\nretry_initial_ms = 20\nretry_max_ms = 50\nclose_wait_ms = 400\n"
     backend, admin = Backend([[answer(503)]] * 100000), free_port()
     collector = start(FAST + ALL + f'admin = "127.0.0.1:{admin}"\n' + backend.settings(waits + "retry_for_ms = 3000\n"))
-    send(collector, 0)
-    until("the end of patience", lambda: scrape(admin)['tsc_spans_dropped_total{reason="exporter_down"}'] == 1)
-    want(f"whether {len(backend.requests)} tries are three or more", len(backend.requests) >= 3, True)
+    tries = []
+    while max(tries, default=0) < 3 and len(tries) < 3:
+        before = len(backend.requests)
+        send(collector, len(tries))
+        until("the end of patience", lambda: scrape(admin)['tsc_spans_dropped_total{reason="exporter_down"}'] == len(tries) + 1)
+        tries.append(len(backend.requests) - before)
+    want(f"whether of the tries {tries} three or more are of one line", max(tries) >= 3, True)
     want("the answer to /close", asked(admin, post(b"", "/close"))[::2], (200, "{}"))
-    want("the report", collector.end()[1], [1, 0, 0, 0, 0, 0, 0, 0, 1])
+    want("the report", collector.end()[1], [len(tries), 0, 0, 0, 0, 0, 0, 0, len(tries)])
     collector = start(FAST + ALL + backend.settings(waits + "retry_for_ms = 600000\n"))
     tries = len(backend.requests)
     send(collector, 1)
     until("a try", lambda: len(backend.requests) > tries)
     began = time.monotonic()
     want("the report of the other", collector.close()[1], [1, 0, 0, 0, 0, 0, 0, 0, 1])
-    at_most("the close", 30, began)
+    at_most("the close", 60, began)
 
 
 def waits_grow(start):
@@ -312,17 +322,17 @@ def waits_grow(start):
     so that of three lines one at least is sent again sooner than by half the longest wait."""
     again = [answer(503)]
     backend = Backend([again] * 4 + [[OK], again, [OK], again])
-    collector = start(FAST + ALL + backend.settings("timeout_ms = 20000\nretry_initial_ms = 400\nretry_max_ms = 1600\n"))
+    collector = start(FAST + ALL + backend.settings("timeout_ms = 60000\nretry_initial_ms = 400\nretry_max_ms = 3200\nclose_wait_ms = 60000\n"))
     for number, requests in enumerate((5, 7, 9)):
         send(collector, number)
-        until("the requests", lambda n=requests: len(backend.requests) == n)
+        until("the requests", lambda n=requests: len(backend.requests) >= n)
     want("the report", collector.close()[1], [3, 3, 0, 0, 0, 0, 0, 0, 0])
     passed = [after - before for before, after in zip(backend.times, backend.times[1:])]
-    for wait, took in zip((400, 800, 1600, 1600), passed):
+    for wait, took in zip((400, 800, 1600, 3200), passed):
         if took < wait / 2000 - 0.005:
             raise Failure(f"{took:.3f} s were waited in place of {wait} ms")
     soonest = min(passed[0], passed[5], passed[7])
-    if soonest > 0.8:
+    if soonest > 1.6:
         raise Failure(f"the soonest of three lines was sent again after {soonest:.3f} s, with 400 ms for the first wait")
 
 
@@ -341,37 +351,44 @@ def long_answers(start):
 
 
 def trickling_answer(start):
-    """An answer that comes byte by byte for longer than an attempt may take is none: the line is sent again."""
-    trickle = answer(200, body=b" " * 400 + b"{}")
+    """An answer that comes byte by byte for longer than an attempt may take is none: the line is sent again within four seconds, in one of three tries."""
+    tried(3, lambda: answer_trickles(start))
+
+
+def answer_trickles(start):
+    """The same, once: the answer takes a minute."""
+    trickle = answer(200, body=b" " * 6000 + b"{}")
     backend = Backend([[trickle[at : at + 1] for at in range(len(trickle))]])
-    waits = "timeout_ms = 500\nretry_initial_ms = 20\nretry_max_ms = 20\n"
+    waits = "timeout_ms = 500\nretry_initial_ms = 20\nretry_max_ms = 20\nclose_wait_ms = 60000\n"
     collector = start(FAST + ALL + backend.settings(waits))
     send(collector, 0)
-    until("the second request", lambda: len(backend.requests) == 2, 4)
+    until("the second request, or the end of the first answer", lambda: len(backend.requests) > 1 or backend.whole)
+    want("whether it is sent again before the first answer is whole", len(backend.requests) > 1, True)
+    want("whether it is sent again within four seconds", backend.times[1] - backend.times[0] < 4, True)
     want("the report", collector.close()[1], [1, 1, 0, 0, 0, 0, 0, 0, 0])
 
 
 def closes_while_it_waits(start):
-    """A backend that asked to wait for half a minute doesn't hold the close for longer than `close_wait_ms`."""
-    backend = Backend([[answer(503, "Retry-After: 30\r\n")]])
+    """A backend that asked to wait for two minutes doesn't hold the close for longer than `close_wait_ms`."""
+    backend = Backend([[answer(503, "Retry-After: 120\r\n")]])
     collector = start(FAST + ALL + backend.settings("close_wait_ms = 500\n"))
     send(collector, 0)
     until("the request", lambda: backend.requests)
     time.sleep(0.2)
     began = time.monotonic()
     want("the report", collector.close()[1], [1, 0, 0, 0, 0, 0, 0, 0, 1])
-    at_most("the close", 15, began)
+    at_most("the close", 60, began)
 
 
 def closes_while_it_hangs(start):
     """An attempt that begins behind the close, and isn't answered, takes no longer than what is left of `close_wait_ms`."""
-    backend = Backend([[answer(503, "Retry-After: 1\r\n")], 20.0])
-    collector = start(FAST + ALL + backend.settings("timeout_ms = 30000\nclose_wait_ms = 3000\n"))
+    backend = Backend([[answer(503, "Retry-After: 1\r\n")], float(PATIENCE)])
+    collector = start(FAST + ALL + backend.settings("timeout_ms = 600000\nclose_wait_ms = 10000\n"))
     send(collector, 0)
     until("the request", lambda: backend.requests)
     began = time.monotonic()
     want("the report", collector.close()[1], [1, 0, 0, 0, 0, 0, 0, 0, 1])
-    at_most("the close", 12, began)
+    at_most("the close", 60, began)
     want("the requests", len(backend.requests), 2)
 
 
@@ -385,7 +402,7 @@ def told_behind_a_loss(start):
     names = ["tsc_spans_handed_total", 'tsc_spans_dropped_total{reason="exporter_down"}', "tsc_spans_waiting", "tsc_lines_total"]
     until("the numbers", lambda: [scrape(admin)[name] for name in names] == [3, 1, 0, 3])
     delivered = sum(len(body) for at, (_, body) in enumerate(backend.requests) if at != 1)
-    want("the bytes", scrape(admin)["tsc_output_bytes_total"], delivered)
+    comes_to("the bytes", lambda: scrape(admin)["tsc_output_bytes_total"], delivered)
     want("health", asked(admin, get("/healthz"))[0], 200)
     want("the answer to /close", asked(admin, post(b"", "/close"))[::2], (200, "{}"))
     want("the report", collector.end()[1], [4, 3, 0, 0, 0, 0, 0, 0, 1])
@@ -394,35 +411,38 @@ def told_behind_a_loss(start):
 def under_load(start):
     """Of 100,000 spans of four clients a backend that fails one request in ten has each that is counted as handed over, once."""
     script = [[answer(503)] if n % 10 == 9 else [answer(400)] if n % 50 == 24 else [OK] for n in range(100000)]
-    backend = Backend(script)
-    waits = "timeout_ms = 30000\nretry_initial_ms = 20\nretry_max_ms = 50\nclose_wait_ms = 50000\n"
-    settings = 'queue_capacity = 65536\nexport_capacity = 65536\nsend_batch_size = 100\nqueue_full = "retry"\nlanes = 2\nshards = 2\n'
-    collector = start(FAST + settings + ALL + backend.settings(waits))
-    clients = [threading.Thread(target=send_until_taken, args=(collector, range(first, first + 25000, 500))) for first in range(0, 100000, 25000)]
-    for client in clients:
-        client.start()
-    for client in clients:
-        client.join()
-    numbers = collector.close()[1]
+    backend, admin = Backend(script), free_port()
+    waits = "timeout_ms = 600000\nretry_initial_ms = 20\nretry_max_ms = 50\nretry_for_ms = 0\nclose_wait_ms = 3600000\n"
+    # Each trace may be open at once: where a shard waits for the backend none leaves undecided.
+    settings = 'num_traces = 200000\nqueue_capacity = 65536\nexport_capacity = 65536\nsend_batch_size = 100\nqueue_full = "retry"\nlanes = 2\nshards = 2\n'
+    collector = start(FAST + f'admin = "127.0.0.1:{admin}"\n' + settings + ALL + backend.settings(waits))
+    side_by_side(lambda first: send_until_taken(collector, range(first, first + 25000, 500)), range(0, 100000, 25000))
+    until("each span is handed over or given up", lambda: sum(scrape(admin)[it] for it in (COUNTS[1], COUNTS[8])) == 100000, 600)
+    want("the answer to /close", asked(admin, post(b"", "/close"))[::2], (200, "{}"))
+    numbers = collector.end()[1]
     have = [number for body in backend.taken for number in ids_in(body)]
     want("repeats", len(have) - len(set(have)), 0)
-    want("what the backend has", len(have), numbers[1])
-    want("the sum", numbers[1] + numbers[8], 100000)
-    want("received", numbers[0], 100000)
+    want(f"what the backend has, by the report {numbers}", len(have), numbers[1])
+    want("the report", numbers, [100000, numbers[1], 0, 0, 0, 0, 0, 0, 100000 - numbers[1]])
     if numbers[8] == 0:
         raise Failure("no batch was given up")
 
 
 def send_until_taken(collector, firsts):
-    """Requests of 500 spans on one connection; what is answered 503 is sent again."""
+    """Requests of 500 spans on one connection; what is answered 503 is sent again until it is taken."""
     client = collector.client()
     for first in firsts:
         request = post(body_of([span(i) for i in range(first, first + 500)]))
-        for _ in range(2000):
-            client.send(request)
-            if client.answer()[0] == 200:
-                break
-            time.sleep(0.02)
+        until(f"the spans from {first} on are taken", lambda: asks_again(client, request))
+    client.close()
+
+
+def asks_again(client, request):
+    """Whether a request is taken; where it isn't it is to be sent again."""
+    client.send(request)
+    status, _, text = client.answer()
+    want("the answer", (status, text) in ((200, "{}"), (503, '{"message":"busy"}')), True)
+    return status == 200
 
 
 CHECKS = [delivers, sends_headers, prints_too, printing_ends, no_time_is_no_wish, tries_again, tells_attempts, no_answers, gives_up, rejected_spans, waits_for_a_backend, late_answer, patience_ends, under_load]

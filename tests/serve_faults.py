@@ -5,12 +5,9 @@ import shutil
 import socket
 import subprocess
 import tempfile
-import time
 
-from collector import ALL, ERROR_SPAN, Client, Failure, LeftOut, body_of, post, want
-from serve_admin import asked, free_port
+from collector import ALL, ERROR_SPAN, PATIENCE, Client, Failure, LeftOut, asked, body_of, free_port, post, until, want
 from serve_export import Backend
-from serve_limits import at_most
 from serve_many import comes_back_to, open_files
 
 HERE = os.path.dirname(os.path.abspath(__file__))
@@ -25,14 +22,6 @@ def library_of(name, folder):
     return library
 
 
-def waits_until(what, holds):
-    """Waits until something holds, a minute at most."""
-    began = time.monotonic()
-    while not holds():
-        at_most(what, 60, began)
-        time.sleep(0.01)
-
-
 def interrupted_reads(start):
     """The first read of each connection is interrupted: the connection goes on, and its request is answered once the rest of it came."""
     admin, request = free_port(), post(body_of([ERROR_SPAN]))
@@ -40,12 +29,12 @@ def interrupted_reads(start):
         library, told = library_of("interrupted_reads", folder), os.path.join(folder, "told")
         surroundings = {"LD_PRELOAD": library, "INTERRUPTED": told}
         collector = start(f'admin = "127.0.0.1:{admin}"\n' + ALL, surroundings=surroundings)
-        waits_until("the first interruption", lambda: os.path.exists(told))
+        until("the first interruption", lambda: os.path.exists(told))
         for _ in range(3):
             before = os.path.getsize(told)
             client = collector.client()
             client.send(request[:40])
-            waits_until("an interruption", lambda: os.path.getsize(told) > before)
+            until("an interruption", lambda: os.path.getsize(told) > before)
             client.send(request[40:])
             want("the answer behind an interrupted read", client.answer()[::2], (200, "{}"))
             client.close()
@@ -69,12 +58,12 @@ def second_address(start):
         surroundings = {**os.environ, "LD_PRELOAD": library_of("two_addresses", folder)}
         ran = subprocess.Popen([start.program, "serve", config], stdin=subprocess.DEVNULL, stdout=subprocess.PIPE, env=surroundings)
         try:
-            waits_until("the second address", lambda: is_there(port) or ran.poll() is not None)
+            until("the second address", lambda: is_there(port) or ran.poll() is not None)
             want("whether it runs", ran.poll(), None)
             client = Client(port)
             client.send(post(body_of([ERROR_SPAN])) + post(b"", "/close"))
             want("the answers", [client.answer()[0] for _ in range(2)], [200, 200])
-            want("the report", ran.communicate(timeout=60)[0].split(b"\n")[:2], [b"received 1", b"handed 1"])
+            want("the report", ran.communicate(timeout=PATIENCE)[0].split(b"\n")[:2], [b"received 1", b"handed 1"])
             want("how many requests", len(backend.requests), 1)
             client.close()
         finally:
@@ -87,7 +76,7 @@ def is_refused(client):
     try:
         want("the answer to one that waits", client.answer()[::2], (503, '{"message":"closing"}'))
         return True
-    except ConnectionResetError:
+    except ConnectionError:
         return False
     finally:
         client.close()
@@ -99,7 +88,7 @@ def refused_of_three(start):
     collector = start(f'max_connections = 1\nadmin = "127.0.0.1:{admin}"\n' + ALL)
     busy = collector.client()
     busy.send(request[:40])
-    time.sleep(0.5)
+    collector.has_open(1)
     waiting = [collector.client() for _ in range(3)]
     for client in waiting:
         client.send(request)
@@ -112,11 +101,11 @@ def refused_of_three(start):
 
 def waits_at_the_close(start):
     """Where one connection may be open and has a request under way, three others wait: at the close they are taken once it is cut, and refused. (A
-    machine that stands still for a tenth of a second may cut them off: one may be, and there are three tries.)"""
+    machine that stands still for a tenth of a second may cut them off: one may be, and there are six tries.)"""
     refused = []
     while not refused or refused[-1] < 2:
-        if len(refused) == 3:
-            raise Failure(f"of three that waited at the close, in three tries {refused} were refused")
+        if len(refused) == 6:
+            raise Failure(f"of three that waited at the close, in six tries {refused} were refused")
         refused.append(refused_of_three(start))
 
 
@@ -124,7 +113,7 @@ def never_reads(start):
     """A client that sends requests and never reads an answer has its connection ended, thirty seconds after it took the last bytes."""
     collector = start(ALL)
     want("the answer to another", collector.ask(post(b"[]"))[0], 400)
-    time.sleep(0.5)
+    collector.has_open(0)
     before = open_files(collector)
     deaf = socket.socket()
     # Short segments and small buffers, so that few answers wait on the way.
@@ -138,7 +127,7 @@ def never_reads(start):
             deaf.sendall(post(b"[]") * 100)
     except TimeoutError:
         pass
-    comes_back_to(collector, before, 120)
+    comes_back_to(collector, before, PATIENCE)
     deaf.close()
     want("the report", collector.close()[1], [0] * 9)
 

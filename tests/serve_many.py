@@ -8,19 +8,21 @@ import subprocess
 import sys
 import time
 
-from collector import ALL, ERROR_SPAN, Failure, body_of, post, want
+from collector import ALL, ERROR_SPAN, Failure, body_of, post, tried, until, want
 from serve_limits import at_most, side_by_side, spans_by_number
 
 MEGABYTES = b" " * 5_000_000
 
 
 def beside_idle_ones(start):
-    """Ten thousand idle connections on four lanes (as many as may be open here) hold none of sixteen busy ones; and those are served when they ask."""
+    """Ten thousand idle connections on four lanes (as many as may be open here, and as can be made in twenty seconds) hold none of sixteen busy ones;
+    and each tenth is served when it asks, before it has been idle for a minute."""
     most = resource.getrlimit(resource.RLIMIT_NOFILE)[1]
     resource.setrlimit(resource.RLIMIT_NOFILE, (most, most))
     count = min(10_000, most - 200)
     collector = start("lanes = 4\nmax_connections = 16384\nnum_traces = 10000\nqueue_capacity = 65536\n" + ALL)
-    idle = [collector.client() for _ in range(count)]
+    made = time.monotonic()
+    idle = made_within(20, count, collector)
     busy = [collector.client() for _ in range(16)]
     began = time.monotonic()
 
@@ -30,16 +32,29 @@ def beside_idle_ones(start):
             want("the answer", busy[at].answer()[::2], (200, "{}"))
 
     side_by_side(asks, range(16))
-    at_most("four hundred requests beside idle connections", 10, began)
-    for at, client in enumerate(idle[::10]):
-        client.send(post(body_of(spans_by_number(1000 + at, 1))))
+    at_most("four hundred requests beside idle connections", 25, began)
+    received = 400
+    for client in idle[::10]:
+        # (One that is as old as the first may be at its end by now.)
+        if time.monotonic() - made > 55:
+            break
+        client.send(post(body_of(spans_by_number(600 + received, 1))))
         want("the answer to one that was idle", client.answer()[::2], (200, "{}"))
+        received += 1
+    want(f"whether {received - 400} that were idle are twenty or more", received >= 420, True)
     began = time.monotonic()
-    received = 400 + len(idle[::10])
     want("the report", collector.close()[1], [received, received, 0, 0, 0, 0, 0, 0, 0])
-    at_most("the close beside idle connections", 5, began)
+    at_most("the close beside idle connections", 25, began)
     for client in idle:
         client.close()
+
+
+def made_within(seconds, count, collector):
+    """So many connections, or as many as are made within these seconds: two hundred at least."""
+    made, began = [], time.monotonic()
+    while len(made) < count and (len(made) < 200 or time.monotonic() - began < seconds):
+        made.append(collector.client())
+    return made
 
 
 def numbered_by_connection(start):
@@ -80,29 +95,37 @@ def sends_while(began, seconds, slow, data):
 
 
 def tricklers(start):
-    """Two thousand clients that send a byte a second, for eight seconds, are answered 408 ten seconds after their first (within nine to thirty), and
-    hold neither others nor the close."""
+    """Two thousand clients (or as many as connect in twenty seconds) that send a byte a second, for eight seconds, are answered 408 ten seconds after
+    their first (within nine to forty-five), and hold neither others nor, within five seconds in one of three tries, the close."""
     collector = start("max_connections = 4096\n" + ALL)
     request = post(body_of([ERROR_SPAN]))
-    slow = [collector.client() for _ in range(2000)]
+    slow = made_within(20, 2000, collector)
     began, rounds = time.monotonic(), 0
     while rounds < 9 and time.monotonic() - began < 8.5:
-        sends_while(began, 60 if rounds == 0 else 8, slow, request[rounds : rounds + 1])
+        sends_while(began, 30 if rounds == 0 else 8, slow, request[rounds : rounds + 1])
         want("the answer beside them", collector.ask(post(body_of([ERROR_SPAN])))[::2], (200, "{}"))
         rounds += 1
         time.sleep(max(0, began + rounds - time.monotonic()))
     for client in slow:
         want("the answer to a trickler", client.answer()[::2], (408, '{"message":"request timeout"}'))
     took = time.monotonic() - began
-    if not 9 <= took <= 30:
+    if not 9 <= took <= 45:
         raise Failure(f"tricklers were answered after {took:.1f} s")
     for client in slow:
         client.close()
+    want("the report", collector.close()[1], [rounds, rounds, 0, 0, 0, 0, 0, 0, 0])
+    tried(3, lambda: closes_beside_requests(start))
+
+
+def closes_beside_requests(start):
+    """Twenty requests that are under way don't hold the close: they are cut a second later, and not ten seconds after their first byte."""
+    collector = start(ALL)
     under_way = [collector.client() for _ in range(20)]
     for client in under_way:
-        client.send(request[:20])
+        client.send(post(b"{}")[:20])
+    collector.has_open(20)
     began = time.monotonic()
-    want("the report", collector.close()[1], [rounds, rounds, 0, 0, 0, 0, 0, 0, 0])
+    want("the report", collector.close()[1], [0] * 9)
     at_most("the close beside requests under way", 5, began)
 
 
@@ -126,11 +149,17 @@ def comes_back_to(collector, count, seconds):
 
 
 def stays_behind_its_refusal(start):
-    """A client, the only one, that stays behind the 408 to its request: its connection is closed a second later all the same."""
+    """A client, the only one, that stays behind the 408 to its request: its connection is closed a second later all the same (within six seconds, in one
+    of three tries)."""
+    tried(3, lambda: one_stays_behind_its_refusal(start))
+
+
+def one_stays_behind_its_refusal(start):
+    """The same, once."""
     collector = start(ALL)
     client = collector.client()
     client.send(b"POST /v1/traces HTTP/1.1\r\n")
-    time.sleep(0.3)
+    collector.has_open(1)
     before = open_files(collector)
     want("the answer", client.answer()[::2], (408, '{"message":"request timeout"}'))
     comes_back_to(collector, before - 1, 6)
@@ -142,7 +171,7 @@ def twenty_thousand_short_ones(start):
     """Twenty thousand connections of one request each leave no open file behind."""
     collector = start("lanes = 4\nnum_traces = 100000\nqueue_capacity = 65536\n" + ALL)
     want("the answer", collector.ask(post(body_of([ERROR_SPAN])))[::2], (200, "{}"))
-    time.sleep(0.3)
+    collector.has_open(0)
     before = open_files(collector)
 
     def asks(at):
@@ -154,7 +183,7 @@ def twenty_thousand_short_ones(start):
             client.close()
 
     side_by_side(asks, range(4))
-    comes_back_to(collector, before, 10)
+    comes_back_to(collector, before, 40)
     want("the report", collector.close()[1], [20_001, 20_001, 0, 0, 0, 0, 0, 0, 0])
 
 
@@ -170,10 +199,10 @@ def two_hundred_thousand_short_ones(start):
     collector = start("lanes = 4\n" + ALL)
     want("the answer", collector.ask(post(body_of([ERROR_SPAN])))[::2], (200, "{}"))
     short_ones(collector, 2_000)
-    time.sleep(0.3)
+    collector.has_open(0)
     before, memory = open_files(collector), kibibytes(collector)
     short_ones(collector, 50_000)
-    comes_back_to(collector, before, 10)
+    comes_back_to(collector, before, 40)
     more = kibibytes(collector) - memory
     if more > 1024:
         raise Failure(f"{more} KiB more are taken than before")
@@ -188,6 +217,7 @@ def few_may_be_open(start):
         clients.append(collector.client())
         clients[-1].send(post(body_of(spans_by_number(at, 1))))
         want(f"the answer to client {at}", clients[-1].answer()[::2], (200, "{}"))
+    until("eighteen are open at most", lambda: sum(is_open(it.socket) for it in clients) <= 18)
     time.sleep(0.5)
     open_now = sum(is_open(it.socket) for it in clients)
     if not 8 <= open_now <= 18:
@@ -209,7 +239,7 @@ def is_open(of):
 def longest_idle_one_leaves(start):
     """At three connections at most a fourth one takes the place of the one that has been idle longest, and not of the one that came first."""
     collector = start("max_connections = 3\n" + ALL)
-    time.sleep(0.3)  # (the one that looked whether it listens has gone)
+    collector.has_open(0)  # (the one that looked whether it listens has gone)
     clients = [collector.client() for _ in range(3)]
     for at, client in enumerate(clients + clients[:1]):
         client.send(post(body_of(spans_by_number(at, 1))))
@@ -237,7 +267,8 @@ def few_open_files(start):
 
 
 def refusals_arrive(start):
-    """A refusal reaches a client that sends all of a long request before it reads: 413, 415, 404 and 431, two hundred times each."""
+    """A refusal reaches a client that sends all of a long request before it reads: 413, 415, 404 and 431, two hundred times each. What is sent behind it
+    is read for a second: a client that was at it for longer may be cut off (fifty of each, as a slow machine has them), and another takes its place."""
     collector = start("lanes = 2\n" + ALL)
     too_long = post(MEGABYTES)
     rows = [
@@ -249,10 +280,17 @@ def refusals_arrive(start):
 
     def asks(at):
         status, request = rows[at]
-        for number in range(200):
-            client = collector.client()
-            client.send(request)
-            want(f"the status of refusal {number}", client.answer()[0], status)
+        arrived = late = 0
+        while arrived < 200:
+            client, began = collector.client(), time.monotonic()
+            try:
+                client.send(request)
+                want(f"the status of refusal {arrived}", client.answer()[0], status)
+                arrived += 1
+            except ConnectionError:
+                late += 1
+                if time.monotonic() - began < 0.9 or late > 50:
+                    raise
             client.close()
 
     side_by_side(asks, range(4))
@@ -260,7 +298,12 @@ def refusals_arrive(start):
 
 
 def reads_nothing(start):
-    """A client that sends requests and reads no answer holds nobody: another is served meanwhile."""
+    """A client that sends requests and reads no answer holds nobody: another is served meanwhile, ten times within five seconds in one of three tries."""
+    tried(3, lambda: one_reads_nothing(start))
+
+
+def one_reads_nothing(start):
+    """The same, once."""
     collector = start(ALL)
     deaf = socket.socket()
     deaf.setsockopt(socket.SOL_SOCKET, socket.SO_RCVBUF, 4096)

@@ -11,9 +11,8 @@ import tempfile
 import threading
 import time
 
-from collector import ALL, ERROR_SPAN, ERRORS, Failure, body_of, is_listening, post, want
-from serve_admin import comes_to, free_port, scrape
-from serve_export import FAST, Backend, answer, send, until
+from collector import ALL, ERROR_SPAN, ERRORS, PATIENCE, Failure, body_of, comes_to, free_port, is_listening, post, scrape, tried, until, want
+from serve_export import FAST, Backend, answer, send
 from serve_faults import library_of
 from serve_limits import at_most
 
@@ -30,7 +29,13 @@ def roots_and_errors(first, count):
 
 def ticks_wait_for_spans(start):
     """Each trace has an error, which came in the request of its root. The output stalls for three seconds, and ticks go on: behind that each span is
-    kept, since a shard takes what its lanes had pushed before it takes a tick."""
+    kept, since a shard takes what its lanes had pushed before it takes a tick. (Where a machine stands still for longer than a trace waits, in the
+    middle of a request, a tick comes before the error: there are three tries.)"""
+    tried(3, lambda: tick_waits_for_spans(start))
+
+
+def tick_waits_for_spans(start):
+    """The same, once."""
     reader, writer = os.pipe()
     settings = "decision_wait_ms = 200\ntick_ms = 10\nlanes = 2\nshards = 2\nqueue_capacity = 65536\nexport_capacity = 8\nsend_batch_size = 8\n"
     collector = start(settings + "num_traces = 1000000\n" + ERRORS, output=writer)
@@ -44,7 +49,7 @@ def ticks_wait_for_spans(start):
             spans += 200
         time.sleep(0.02)
     kept = []
-    reading = threading.Thread(target=lambda: kept.append(open(reader, "rb").read()))
+    reading = threading.Thread(target=lambda: kept.append(open(reader, "rb").read()), daemon=True)
     reading.start()
     time.sleep(1)
     collector.ask(post(b"", "/close"))
@@ -65,7 +70,7 @@ def set_shift(path, seconds):
 
 def waits_by_time_that_passes(start):
     """A wall clock that is set back by an hour, and then forward by two, decides nothing late and nothing early: what is to wait for 4 seconds comes
-    within 3.5 to 30. Both are said."""
+    within 3.5 to 90. Both are said."""
     with tempfile.TemporaryDirectory() as folder:
         shift = os.path.join(folder, "shift")
         surroundings = {"LD_PRELOAD": library_of("shifted_clock", folder), "SHIFT": shift}
@@ -75,10 +80,11 @@ def waits_by_time_that_passes(start):
             want("the answer", collector.ask(post(body_of([span])))[::2], (200, "{}"))
             set_shift(shift, seconds)
             while printed(collector) == number:
-                at_most("the wait for a line", 30, began)
+                at_most("the wait for a line", 90, began)
                 time.sleep(0.05)
             if time.monotonic() - began < 3.5:
                 raise Failure(f"a line came after {time.monotonic() - began:.2f} s")
+            until("a jump is said", lambda wanted=number + 1: collector.says().count(" clock_jumped ") == wanted)
             want("the lines behind it", printed(collector), number + 1)
         want("the report", collector.close()[1], [2, 2, 0, 0, 0, 0, 0, 0, 0])
         jumps = [int(number) for number in re.findall(r" WARN clock_jumped by_ms=(\d+) ", collector.said)]
@@ -121,7 +127,9 @@ def is_logged(start):
         time.sleep(1.5)  # (it is looked twice a second at what is to be said; nothing else may be)
         _, numbers = collector.close()
         events = [event_of(form, line) for line in collector.said.splitlines()]
-        want("the events", [name for name, _ in events if name != "closing"], ["starting", "settings", "listening"] + ["queue_full"] * (numbers[3] > 0) + ["closed"])
+        # (There is room again ten seconds later, which a slow machine may see.)
+        told = [name for name, _ in events if name not in ("closing", "queue_has_room")]
+        want("the events", told, ["starting", "settings", "listening"] + ["queue_full"] * (numbers[3] > 0) + ["closed"])
         fields = dict(events)
         want("the configuration", os.path.basename(fields["starting"]["configuration"]), "config.toml")
         changed = {"listen", "queue_capacity"} | ({"log"} if form == "json" else set())
@@ -145,7 +153,7 @@ def event_of(form, line):
 
 def says_what_was_given_up(start):
     """Spans of batches that the backend refuses for good are told in the log, once for all that are given up within a minute; others are handed over."""
-    backend = Backend([[answer(415)], [answer(400)]])
+    backend, began = Backend([[answer(415)], [answer(400)]]), time.monotonic()
     collector = start('log = "text"\n' + FAST + ALL + backend.settings())
     for number in range(3):
         send(collector, number)
@@ -153,7 +161,9 @@ def says_what_was_given_up(start):
         until("what is said", lambda: " spans_given_up " in collector.says())
     want("the report", collector.close()[1], [3, 1, 0, 0, 0, 0, 0, 0, 2])
     events = [event_of("text", line) for line in collector.said.splitlines()]
-    want("what is said", [(name, fields) for name, fields in events if "given_up" in name], [("spans_given_up", {"spans": "1"})])
+    told = [(name, fields) for name, fields in events if "given_up" in name]
+    # (Ten seconds later none is given up any more, and a minute later it is told again.)
+    want("what is said", told[:1] if time.monotonic() - began > 9 else told, [("spans_given_up", {"spans": "1"})])
 
 
 def says_what_cannot_be(start):
@@ -170,7 +180,7 @@ def says_what_cannot_be(start):
         for text, status, output, event, part in cases:
             with open(config, "w", encoding="utf-8") as file:
                 file.write(text)
-            done = subprocess.run([start.program, "serve", config], stdin=subprocess.DEVNULL, capture_output=True, timeout=120, check=False)
+            done = subprocess.run([start.program, "serve", config], stdin=subprocess.DEVNULL, capture_output=True, timeout=PATIENCE, check=False)
             want("the end", (done.returncode, done.stdout), (status, output))
             last = done.stderr.decode().splitlines()[-1]
             want(f"what {last!r} says", (event in last, part in last), (True, True))
@@ -189,10 +199,10 @@ def listens_everywhere(start):
         comes_to("whether it listens at its second address", lambda: is_listening(f":{admin}"), True)
         for host in hosts:
             for where in (port, admin):
-                socket.create_connection((host, where), timeout=60).close()
-        done = subprocess.run([start.program, "close", config], stdin=subprocess.DEVNULL, capture_output=True, timeout=60, check=False)
+                socket.create_connection((host, where), timeout=PATIENCE).close()
+        done = subprocess.run([start.program, "close", config], stdin=subprocess.DEVNULL, capture_output=True, timeout=PATIENCE, check=False)
         want("the end of close", (done.returncode, done.stdout), (0, b""))
-        want("the end", (ran.wait(timeout=60), ran.stdout.readline()), (0, b"received 0\n"))
+        want("the end", (ran.wait(timeout=PATIENCE), ran.stdout.readline()), (0, b"received 0\n"))
         ran.stdout.close()
         ran.stderr.close()
 
@@ -212,14 +222,14 @@ def output_that_stalls(start):
         span = {"traceId": f"{number:032x}", "spanId": f"{number:016x}", "attributes": attributes}
         want("the answer", collector.ask(post(body_of([span])))[0], 200)
     while told("tsc_output_stalled_seconds") < 2:
-        at_most("the time until a stall of two seconds is told", 30, began)
+        at_most("the time until a stall of two seconds is told", PATIENCE, began)
         time.sleep(0.1)
-    passed = time.monotonic() - began
     for name in ("tsc_output_stalled_seconds", "tsc_oldest_waiting_seconds"):
-        if not 1 <= told(name) <= passed + 1:
-            raise Failure(f"{name} is {told(name)} after {passed:.1f} seconds")
+        seconds = told(name)
+        if not 1 <= seconds <= time.monotonic() - began + 1:
+            raise Failure(f"{name} is {seconds} after {time.monotonic() - began:.1f} seconds")
     kept = []
-    reading = threading.Thread(target=lambda: kept.append(open(reader, "rb").read()))
+    reading = threading.Thread(target=lambda: kept.append(open(reader, "rb").read()), daemon=True)
     reading.start()
     comes_to("the stall once it is read", lambda: told("tsc_output_stalled_seconds"), 0)
     want("the answer", collector.ask(post(body_of([{"traceId": "1" * 32, "spanId": "3" * 16}])))[0], 200)

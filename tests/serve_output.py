@@ -9,8 +9,7 @@ import tempfile
 import threading
 import time
 
-from collector import ALL, ERROR_LINE, ERROR_SPAN, Client, Failure, LeftOut, body_of, post, spans_of, want
-from serve_admin import free_port
+from collector import ALL, ERROR_LINE, ERROR_SPAN, PATIENCE, Client, LeftOut, body_of, free_port, post, spans_of, until, want
 from serve_operated import event_of
 
 EACH_AT_ONCE = "decision_wait_ms = 50\ntick_ms = 10\nsend_batch_size = 1\n"
@@ -36,15 +35,6 @@ def lines_of(paths):
 def numbers_of(lines):
     """The numbers of the spans of lines, in order."""
     return [int(span["spanId"], 16) for line in lines for span in spans_of([line])]
-
-
-def until(what, holds):
-    """Waits until something holds."""
-    for _ in range(1200):
-        if holds():
-            return
-        time.sleep(0.05)
-    raise Failure(f"{what}: not within a minute")
 
 
 def ask_in_charge(port, path):
@@ -88,7 +78,7 @@ def cannot_be_written(start):
         for path, cause in ((os.path.join(folder, "none", "spans.jsonl"), "No such file"), (folder, "Is a directory")):
             with open(config, "w", encoding="utf-8") as file:
                 file.write(f'listen = "127.0.0.1:{free_port()}"\noutput = "{path}"\n' + ALL)
-            done = subprocess.run([start.program, "serve", config], stdin=subprocess.DEVNULL, capture_output=True, timeout=120, check=False)
+            done = subprocess.run([start.program, "serve", config], stdin=subprocess.DEVNULL, capture_output=True, timeout=PATIENCE, check=False)
             want("the end", (done.returncode, done.stdout), (1, b"tsc: cannot write\n"))
             last = done.stderr.decode().splitlines()[-1]
             want(f"what {last!r} says", ("cannot_write" in last, f'what="{path}"' in last, cause in last), (True, True, True))
@@ -122,18 +112,20 @@ def moved_and_opened_anew(start):
     missing or there twice."""
     with tempfile.TemporaryDirectory() as folder:
         path, admin = os.path.join(folder, "spans.jsonl"), free_port()
-        collector = start(f'output = "{path}"\nadmin = "127.0.0.1:{admin}"\n' + EACH_AT_ONCE + ALL)
+        collector = start(f'output = "{path}"\nadmin = "127.0.0.1:{admin}"\nqueue_full = "retry"\n' + EACH_AT_ONCE + ALL)
         sent, sending = [], threading.Event()
 
         def send():
             client = collector.client()
             while not sending.is_set():
                 client.send(request(len(sent)))
-                want("the answer", client.answer()[::2], (200, "{}"))
-                sent.append(len(sent) + 1)
+                # (503 where a disk holds up the output: it is sent again)
+                if client.answer()[0] == 200:
+                    sent.append(len(sent) + 1)
+                time.sleep(0.001)
             client.close()
 
-        sender = threading.Thread(target=send)
+        sender = threading.Thread(target=send, daemon=True)
         sender.start()
         newest = []
         for turn in range(5):
@@ -208,7 +200,7 @@ def full_disk_with_retry(start):
         with open(filler, "wb") as file:
             file.write(bytes((8192 - 56) * 1024))
         taken, refused, sent = [], 0, 0
-        end = time.monotonic() + 20
+        end = time.monotonic() + PATIENCE
         while time.monotonic() < end and refused < 20:
             status, fields, _ = collector.ask(request(sent, 4_000))
             if status == 200:
@@ -219,13 +211,14 @@ def full_disk_with_retry(start):
                 refused += 1
                 time.sleep(0.1)
         want("how many were refused", refused, 20)
-        time.sleep(2)
+        # It is looked twice a second at what is to be said, also at what isn't.
+        until("what is said", lambda: " output_failing " in collector.says())
+        time.sleep(1.5)
         os.remove(filler)
         for _ in range(10):
             until("an answer 200", lambda: collector.ask(request(sent, 4_000))[0] == 200)
             taken.append(sent + 1)
             sent += 1
-        # It is looked twice a second at what is to be said, also at what isn't.
         until("what is said", lambda: " output_back " in collector.says())
         time.sleep(1.5)
         lines, numbers = collector.close()
@@ -239,7 +232,7 @@ def full_disk_with_retry(start):
 
 
 def full_disk_at_the_end(start):
-    """A disk that stays full: once it is told to stop, a write is tried for ten seconds more (forty at most), and then its spans are counted under
+    """A disk that stays full: once it is told to stop, a write is tried for ten seconds more (ninety at most), and then its spans are counted under
     reason 7."""
     with SmallDisk(64) as disk:
         path = os.path.join(disk, "spans.jsonl")
@@ -248,13 +241,13 @@ def full_disk_at_the_end(start):
         collector = start(f'log = "text"\noutput = "{path}"\noutput_fault = "retry"\n' + EACH_AT_ONCE + ALL)
         for number in range(4):
             collector.ask(request(number, 4_000))
-        time.sleep(2)
+        until("what is said", lambda: " output_failing " in collector.says())
         began = time.monotonic()
         collector.ask(post(b"", "/close"))
-        collector.process.wait(timeout=120)
+        collector.process.wait(timeout=PATIENCE)
         passed = time.monotonic() - began
         want("the status", collector.process.returncode, 1)
-        want(f"whether {passed:.1f} seconds are ten and a little", 9.5 < passed < 40, True)
+        want(f"whether {passed:.1f} seconds are ten and a little", 9.5 < passed < 90, True)
         with open(path, encoding="utf-8") as file:
             want("whether a line was written whole", "\n" in file.read(), False)
 

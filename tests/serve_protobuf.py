@@ -4,10 +4,9 @@ import gzip
 import json
 import random
 
-from collector import ALL, ERROR_LINE, ERROR_SPAN, ERRORS, body_of, post, want
+from collector import ALL, ERROR_LINE, ERROR_SPAN, ERRORS, asked, body_of, free_port, post, scrape, until, want
 from protobuf_body import counted, number, request_of, text
-from serve_admin import asked, free_port, scrape
-from serve_export import FAST, Backend, until
+from serve_export import FAST, Backend
 
 TAKEN = "accept_protobuf = true\n"
 PROTOBUF = "application/x-protobuf"
@@ -242,7 +241,7 @@ def the_same_as_in_json(start):
     """400 random requests, in JSON to one collector and in protobuf to another: the same lines, with doubles kept and without, which have the spans
     as they were made."""
     for doubles in ("keep", "discard"):
-        settings = TAKEN + f'double_values = "{doubles}"\nlanes = 1\nshards = 1\nsend_batch_size = 1\n' + ALL
+        settings = TAKEN + f'double_values = "{doubles}"\nlanes = 1\nshards = 1\nqueue_capacity = 65536\nsend_batch_size = 1\n' + ALL
         printed = []
         for in_protobuf in (False, True):
             luck, first, made = random.Random(7), 0, []
@@ -294,7 +293,7 @@ def protobuf_over_two(start):
     settings = TAKEN + 'double_values = "keep"\nsend_batch_size = 1\n' + FAST + ALL
     for is_chain in (False, True):
         last = start(settings)
-        first = start(settings + f'[export]\nendpoint = "http://127.0.0.1:{last.port}/v1/traces"\nencoding = "proto"\n') if is_chain else last
+        first = start(settings + f'[export]\nendpoint = "http://127.0.0.1:{last.port}/v1/traces"\nencoding = "proto"\ntimeout_ms = 60000\nclose_wait_ms = 100000\n') if is_chain else last
         luck, count, made = random.Random(11), 0, []
         client = first.client()
         for _ in range(60):

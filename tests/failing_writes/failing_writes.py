@@ -23,7 +23,7 @@ def run(program, library, **limits):
     """Returns the status and what the output took."""
     words = [program, "replay", TOP / "examples/errors.toml"]
     given = (TOP / "examples/error_span.script").read_bytes()
-    done = subprocess.run(words, input=given, env={**os.environ, "LD_PRELOAD": library, **limits}, capture_output=True, timeout=60)
+    done = subprocess.run(words, input=given, env={**os.environ, "LD_PRELOAD": library, **limits}, capture_output=True, timeout=600)
     return done.returncode, done.stdout
 
 

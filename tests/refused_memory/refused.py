@@ -45,7 +45,7 @@ class Runs:
     def run(self, words, folder, **more):
         """Returns the status, what was printed, and what was said on standard error."""
         env = {**os.environ, "LD_PRELOAD": self.library, **more}
-        done = subprocess.run(words, cwd=folder, env=env, input=self.given, capture_output=True, text=True, errors="replace", timeout=120)
+        done = subprocess.run(words, cwd=folder, env=env, input=self.given, capture_output=True, text=True, errors="replace", timeout=600)
         return done.returncode, done.stdout, done.stderr
 
     def numbers(self, words, folder):
@@ -119,12 +119,13 @@ def replays(runs, crates):
 
 
 def send_lines(runs, program, **more):
-    """A run of four lines of a span each. Returns the status, what was printed, what was said on standard error, and how many spans the backend took."""
+    """A run of four lines of a span each, however late they are. Returns the status, what was printed, what was said on standard error, and how many spans
+    the backend took."""
     ok = [serve_export.OK]
     backend = serve_export.Backend([ok, [serve_export.answer(503)], ok, 10, ok, [serve_export.answer(400)]])
     surroundings = {"LD_PRELOAD": runs.library, "SENDER_ALONE": "1", **more}
     with open(f"{runs.work}/printed", "w+", encoding="utf-8") as printed:
-        ran = collector.Collector(program, serve_export.FAST + collector.ALL + backend.settings(serve_export.SHORT), output=printed, surroundings=surroundings)
+        ran = collector.Collector(program, serve_export.FAST + "send_batch_size = 1\n" + collector.ALL + backend.settings(serve_export.SHORT), output=printed, surroundings=surroundings)
         try:
             for number, requests in enumerate((1, 3, 4, 5)):
                 serve_export.send(ran, number)
@@ -132,7 +133,7 @@ def send_lines(runs, program, **more):
                 while len(backend.requests) < requests and time.time() < ended:
                     time.sleep(0.005)
             ran.ask(collector.post(b"", "/close"))
-            status = ran.process.wait(timeout=60)
+            status = ran.process.wait(timeout=collector.PATIENCE)
             printed.seek(0)
             return status, printed.read(), ran.says(), len({it for body in backend.taken for it in serve_export.ids_in(body)})
         finally:

@@ -1,5 +1,5 @@
 -- Conditions by what their parts say.
--- For the laws.
+-- For the laws, and for evaluating::truth_on.
 use Rattle.std.proofs.Common.{◌≡◌, Bool, true, false, Ok, Err, refl, sym, ◌∙◌, ap}
 use Rattle.ottl_text.specs.declared.expression.Unary.TheVariants.{Not}
 use Rattle.ottl_text.specs.declared.expression.Binary.TheVariants.{And, Or}
@@ -14,19 +14,19 @@ asked (Err e) = refl
 asked (Ok (truth b)) = refl
 asked (Ok v) = refl
 
-by_and : (a b : Answer Value) → (together And a b >>= as_truth) ≡ and_of (a >>= as_truth) (b >>= as_truth)
+pub by_and : (a b : Answer Value) → (together And a b >>= as_truth) ≡ and_of (a >>= as_truth) (b >>= as_truth)
 by_and (Err e) b = refl
 by_and (Ok (truth true)) b = asked b
 by_and (Ok (truth false)) b = refl
 by_and (Ok v) b = refl
 
-by_or : (a b : Answer Value) → (together Or a b >>= as_truth) ≡ or_of (a >>= as_truth) (b >>= as_truth)
+pub by_or : (a b : Answer Value) → (together Or a b >>= as_truth) ≡ or_of (a >>= as_truth) (b >>= as_truth)
 by_or (Err e) b = refl
 by_or (Ok (truth true)) b = refl
 by_or (Ok (truth false)) b = asked b
 by_or (Ok v) b = refl
 
-by_not : (a : Answer Value) → ((a >>= made_of Not) >>= as_truth) ≡ not_of (a >>= as_truth)
+pub by_not : (a : Answer Value) → ((a >>= made_of Not) >>= as_truth) ≡ not_of (a >>= as_truth)
 unfolding made_of
 by_not (Err e) = refl
 by_not (Ok (truth b)) = refl

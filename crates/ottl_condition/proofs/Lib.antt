@@ -1,3 +1,4 @@
+mod Comparisons
 mod Connectives
 mod Digits
 mod Equals

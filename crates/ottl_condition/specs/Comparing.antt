@@ -1,6 +1,6 @@
 -- Comparisons (OTTL, README, "Comparison Rules"): truth values, whole numbers with floats, texts, bytes, times and durations have an
 -- order among themselves, `nil` equals `nil`, and two maps or two lists are equal or not; of any two others just `!=` holds.
-use Rattle.std.specs.Prelude.{Bool, true, false, not, ◌||◌, Option, Some, None}
+use Rattle.std.specs.Prelude.{Bool, true, false, not, ◌||◌, Option, Some, None, Ok}
 use Rattle.std.specs.declared.cmp.Ordering.{Ordering}
 use Rattle.std.specs.declared.cmp.Ordering.TheVariants.{Less, Equal, Greater}
 use Rattle.std.specs.Ordering.{nat_cmp, int_cmp, bool_cmp, float_partial_cmp}
@@ -10,7 +10,7 @@ use Rattle.std.specs.Float.Ieee.{of_int}
 use Rattle.ottl_text.specs.declared.expression.Binary.{Binary}
 use Rattle.ottl_text.specs.declared.expression.Binary.TheVariants as two
 use Rattle.ottl_condition.specs.Equality.{lists_equal, maps_equal}
-use Rattle.ottl_condition.specs.Values.{Value, nil, truth, int, float, text, bytes, map, list, time, duration}
+use Rattle.ottl_condition.specs.Values.{Value, nil, truth, int, float, text, bytes, map, list, time, duration, Answer, ◌>>=◌}
 
 abbrev pub is_less : Option Ordering → Bool
 is_less (Some Less) = true
@@ -59,3 +59,17 @@ unfoldable pub compared : Binary → Value → Value → Bool
 compared b (map ps) (map qs) = by_equality b (maps_equal ps qs)
 compared b (list vs) (list ws) = by_equality b (lists_equal vs ws)
 compared b x y = holds b (order_of x y)
+
+-- the operators that compare
+abbrev pub is_comparison : Binary → Bool
+is_comparison two.Equal = true
+is_comparison two.NotEqual = true
+is_comparison two.Less = true
+is_comparison two.AtMost = true
+is_comparison two.Greater = true
+is_comparison two.AtLeast = true
+is_comparison _ = false
+
+-- whether a comparison holds of two values; the first error where there is one
+abbrev pub comparison : Binary → Answer Value → Answer Value → Answer Bool
+comparison b l r = l >>= λ x. r >>= λ y. Ok (compared b x y)

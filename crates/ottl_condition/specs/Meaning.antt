@@ -2,6 +2,7 @@
 use Rattle.std.specs.Prelude.{ℕ, Bool, true, false, List, [], ◌∷◌, ◌++◌, Ok}
 use Rattle.ottl_text.specs.declared.expression.Binary.{Binary}
 use Rattle.ottl_text.specs.declared.expression.Binary.TheVariants as two
+use Rattle.ottl_text.specs.declared.expression.Unary.{Unary}
 use Rattle.ottl_text.specs.Syntax.{Term, literal, path, is_root_span, unary, binary, is_match, substring}
 use Rattle.ottl_condition.specs.Subjects.{Subject, sent_of}
 use Rattle.ottl_condition.specs.Values.{Value, truth, literal_value, Answer, ◌>>=◌, as_truth}
@@ -48,15 +49,26 @@ together b l r = l >>= λ x. beside b x r
 abbrev pub by_place : Value → (start size : Answer Value) → Answer Value
 by_place v start size = start >>= λ x. size >>= λ y. part_of v x y
 
+-- what is made of one value, or its error
+abbrev pub made_on : Unary → Answer Value → Answer Value
+made_on u r = r >>= made_of u
+
+abbrev pub searched_on : (pattern : List ℕ) → Answer Value → Answer Value
+searched_on pattern r = r >>= searched pattern
+
 -- the value of an expression
 abbrev pub value_on : Subject → Term → Answer Value
 value_on s (literal l) = Ok (literal_value l)
 value_on s (path p) = walk (begun p.root s) p.keys
 value_on s is_root_span = Ok (truth (is_root (parent_of (sent_of s).span.ids)))
-value_on s (unary u t) = value_on s t >>= made_of u
+value_on s (unary u t) = made_on u (value_on s t)
 value_on s (binary b x y) = together b (value_on s x) (value_on s y)
-value_on s (is_match t pattern) = value_on s t >>= searched pattern
+value_on s (is_match t pattern) = searched_on pattern (value_on s t)
 value_on s (substring x y z) = value_on s x >>= λ v. by_place v (value_on s y) (value_on s z)
+
+-- whether an expression is true; an error where it is neither true nor false
+abbrev pub truth_on : Subject → Term → Answer Bool
+truth_on s t = value_on s t >>= as_truth
 
 -- the same of a condition, which is neither true nor false only by an error
 abbrev pub condition_on : Subject → Term → Answer Value

@@ -99,9 +99,22 @@ begun roots.EventAttributes (event r e) = map e.attributes
 begun roots.EventDroppedAttributes (event r e) = int (pos e.dropped_attributes_count)
 begun root s = root_value root (sent_of s)
 
+-- the pairs of a map
+abbrev pub pairs_in : Value → Option (List KeyValue)
+pairs_in (map ps) = Some ps
+pairs_in _ = None
+
+abbrev pub value_in : KeyValue → Value
+value_in p = any_value p.value
+
 -- the value of the first pair of a key, if there is one
 abbrev pub look_up : (key : List ℕ) → List KeyValue → Option Value
-look_up key ps = option_map (λ p. any_value p.value) (pair_of key ps)
+look_up key ps = option_map value_in (pair_of key ps)
+
+-- a value, or `nil` where there is none
+abbrev pub or_nil : Option Value → Value
+or_nil (Some v) = v
+or_nil None = nil
 
 -- the value at a place, from 0; there is none at a place below it
 abbrev pub value_at : ℤ → List AnyValue → Option Value

@@ -11,36 +11,18 @@ use std::cmp::Ordering;
 use std::num::nearest_i64_to_f64;
 
 /// Whether a comparison holds of two values in this order.
-fn holds(binary: Binary, order: Option<Ordering>) -> bool
+pub(crate) fn holds(binary: Binary, order: Option<Ordering>) -> bool
     ensures { result ≡ spec.holds binary order }
 {
     match binary {
-        Binary::Equal => is_equal(order),
-        Binary::NotEqual => !is_equal(order),
-        Binary::Less => is_less(order),
-        Binary::AtMost => is_less(order) || is_equal(order),
-        Binary::Greater => is_greater(order),
-        Binary::AtLeast => is_greater(order) || is_equal(order),
+        Binary::Equal => matches!(order, Some(Ordering::Equal)),
+        Binary::NotEqual => !matches!(order, Some(Ordering::Equal)),
+        Binary::Less => matches!(order, Some(Ordering::Less)),
+        Binary::AtMost => matches!(order, Some(Ordering::Less | Ordering::Equal)),
+        Binary::Greater => matches!(order, Some(Ordering::Greater)),
+        Binary::AtLeast => matches!(order, Some(Ordering::Greater | Ordering::Equal)),
         _ => false,
     }
-}
-
-fn is_less(order: Option<Ordering>) -> bool
-    ensures { result ≡ spec.is_less order }
-{
-    matches!(order, Some(Ordering::Less))
-}
-
-fn is_equal(order: Option<Ordering>) -> bool
-    ensures { result ≡ spec.is_equal order }
-{
-    matches!(order, Some(Ordering::Equal))
-}
-
-fn is_greater(order: Option<Ordering>) -> bool
-    ensures { result ≡ spec.is_greater order }
-{
-    matches!(order, Some(Ordering::Greater))
 }
 
 /// The order of two values, if they have one.

@@ -3,7 +3,7 @@ ghost use Rattle.std.specs.Prelude.{◌≡◌, true};
 ghost use Rattle.std.specs.Fmt.{signed_decimal};
 ghost use Rattle.expression.specs.Expressions.{is_known, is_match};
 ghost use Rattle.ottl_condition.specs.Functions as spec;
-ghost use Rattle.ottl_condition.specs.Values.{value_of, answer_of, as_truth};
+ghost use Rattle.ottl_condition.specs.Values.{value_of, answer_of};
 
 use crate::conversions::{as_duration, as_float, as_int, as_text, truth_text};
 use crate::eval_error::EvalError;
@@ -11,42 +11,6 @@ use crate::value::Value;
 use expression::Searches;
 use itoa::Buffer;
 use ottl_text::Unary;
-
-fn is_text(value: &Value<'_>) -> bool
-    ensures { result ≡ spec.is_text (value_of value.now) }
-{
-    matches!(value, Value::Text(_) | Value::Digits(_))
-}
-
-fn is_int(value: &Value<'_>) -> bool
-    ensures { result ≡ spec.is_int (value_of value.now) }
-{
-    matches!(value, Value::Int(_))
-}
-
-fn is_float(value: &Value<'_>) -> bool
-    ensures { result ≡ spec.is_float (value_of value.now) }
-{
-    matches!(value, Value::Float(_))
-}
-
-fn is_bool(value: &Value<'_>) -> bool
-    ensures { result ≡ spec.is_bool (value_of value.now) }
-{
-    matches!(value, Value::Bool(_))
-}
-
-fn is_map(value: &Value<'_>) -> bool
-    ensures { result ≡ spec.is_map (value_of value.now) }
-{
-    matches!(value, Value::Map(_))
-}
-
-fn is_list(value: &Value<'_>) -> bool
-    ensures { result ≡ spec.is_list (value_of value.now) }
-{
-    matches!(value, Value::List(_))
-}
 
 /// The bytes of a text, the pairs of a map, the values of a list.
 fn length_of<'a>(value: &Value<'_>) -> Result<Value<'a>, EvalError>
@@ -61,29 +25,22 @@ fn length_of<'a>(value: &Value<'_>) -> Result<Value<'a>, EvalError>
     }
 }
 
-/// The other truth value.
-fn negated<'a>(value: &Value<'_>) -> Result<Value<'a>, EvalError>
-    ensures { answer_of result ≡ spec.negated (as_truth (value_of value.now)) }
-{
-    match value.truth() {
-        Ok(truth) => Ok(Value::Bool(!truth)),
-        Err(error) => Err(error),
-    }
-}
-
 /// What a function of one value makes of it.
 #[tactic(auto, unfolding(crate::specs::Functions::made_of))]
 pub(crate) fn made_of<'a>(unary: Unary, value: &Value<'a>) -> Result<Value<'a>, EvalError>
     ensures { answer_of result ≡ spec.made_of unary (value_of value.now) }
 {
     match unary {
-        Unary::Not => negated(value),
-        Unary::IsString => Ok(Value::Bool(is_text(value))),
-        Unary::IsInt => Ok(Value::Bool(is_int(value))),
-        Unary::IsDouble => Ok(Value::Bool(is_float(value))),
-        Unary::IsBool => Ok(Value::Bool(is_bool(value))),
-        Unary::IsMap => Ok(Value::Bool(is_map(value))),
-        Unary::IsList => Ok(Value::Bool(is_list(value))),
+        Unary::Not => match value.truth() {
+            Ok(truth) => Ok(Value::Bool(!truth)),
+            Err(error) => Err(error),
+        },
+        Unary::IsString => Ok(Value::Bool(matches!(value, Value::Text(_) | Value::Digits(_)))),
+        Unary::IsInt => Ok(Value::Bool(matches!(value, Value::Int(_)))),
+        Unary::IsDouble => Ok(Value::Bool(matches!(value, Value::Float(_)))),
+        Unary::IsBool => Ok(Value::Bool(matches!(value, Value::Bool(_)))),
+        Unary::IsMap => Ok(Value::Bool(matches!(value, Value::Map(_)))),
+        Unary::IsList => Ok(Value::Bool(matches!(value, Value::List(_)))),
         Unary::Len => length_of(value),
         Unary::Int => Ok(as_int(value)),
         Unary::Double => Ok(as_float(value)),

@@ -21,6 +21,7 @@ mod eval_error;
 mod evaluating;
 mod functions;
 mod laws;
+mod literal_comparing;
 mod paths;
 mod searching;
 mod subject;

@@ -1,8 +1,8 @@
 //! What a span and an event have, and what they were sent under.
 ghost use Rattle.std.specs.Prelude.{◌≡◌, ◌≤◌, length, IsUtf8};
-ghost use Rattle.std.specs.Option.{option_map};
+ghost use Rattle.std.specs.Option.{option_copied, option_map};
 ghost use Rattle.span_ids.specs.Id.{id_text};
-ghost use Rattle.ottl_condition.specs.Values.{value_of, answer_of, any_value};
+ghost use Rattle.ottl_condition.specs.Values.{value_of, answer_of};
 ghost use Rattle.ottl_condition.specs.Subjects.{subject_of};
 ghost use Rattle.ottl_condition.specs.Paths as spec;
 
@@ -13,8 +13,13 @@ use crate::value::Value;
 use arrayvec::ArrayString;
 use hex::encode_to_slice;
 use otlp_types::{AnyValue, Ids, KeyValue, Record};
-use ottl_text::{Key, Root};
+use ottl_text::{Key, Path, Root};
 use span_ids::{SpanId, TraceId};
+
+/// The digits of no id of a span, and of a trace.
+const NO_SPAN: &str = "0000000000000000";
+
+const NO_TRACE: &str = "00000000000000000000000000000000";
 
 /// A kind's name; other numbers have none.
 fn kind_text(kind: i32) -> &'static str
@@ -70,20 +75,6 @@ fn span_digits(id: SpanId) -> ArrayString<32>
     digits_text(&digits)
 }
 
-/// The digits of no id of a span.
-fn no_span<'a>() -> Value<'a>
-    ensures { value_of result ≡ spec.no_span }
-{
-    Value::Text("0000000000000000")
-}
-
-/// The digits of no id of a trace.
-fn no_trace<'a>() -> Value<'a>
-    ensures { value_of result ≡ spec.no_trace }
-{
-    Value::Text("00000000000000000000000000000000")
-}
-
 /// The parent, where there is one.
 fn parent_of(ids: Option<Ids>) -> Option<SpanId>
     ensures { result ≡ spec.parent_of ids }
@@ -107,7 +98,7 @@ fn span_id_value<'a>(id: Option<SpanId>) -> Value<'a>
 {
     match id {
         Some(id) => Value::Digits(span_digits(id)),
-        None => no_span(),
+        None => Value::Text(NO_SPAN),
     }
 }
 
@@ -118,14 +109,14 @@ fn id_value<'a>(root: Root, ids: Option<Ids>) -> Value<'a>
     match (root, ids) {
         (Root::ParentSpanIdText, ids) => span_id_value(parent_of(ids)),
         (Root::SpanIdText, Some(ids)) => Value::Digits(span_digits(ids.span)),
-        (Root::SpanIdText, None) => no_span(),
+        (Root::SpanIdText, None) => Value::Text(NO_SPAN),
         (_, Some(ids)) => Value::Digits(trace_digits(ids.trace)),
-        (_, None) => no_trace(),
+        (_, None) => Value::Text(NO_TRACE),
     }
 }
 
 /// The value of a path before its keys: of an event just where one is asked.
-pub(crate) fn begun<'a>(root: Root, subject: &Subject<'a>) -> Value<'a>
+fn begun<'a>(root: Root, subject: &Subject<'a>) -> Value<'a>
     ensures { value_of result ≡ spec.begun root (subject_of subject.now) }
 {
     match (root, subject) {
@@ -143,6 +134,19 @@ pub(crate) fn begun<'a>(root: Root, subject: &Subject<'a>) -> Value<'a>
             Value::Int(i64::from(event.dropped_attributes_count))
         }
         _ => root_value(root, subject.sent()),
+    }
+}
+
+/// The pairs with which a path begins, if it begins with some.
+pub(crate) fn attributes_at<'a>(root: Root, subject: &Subject<'a>) -> Option<&'a [KeyValue]>
+    ensures { option_copied result ≡ spec.pairs_in (spec.begun root (subject_of subject.now)) }
+{
+    match (root, subject) {
+        (Root::Attributes, _) => Some(subject.sent().span.get().attributes.as_slice()),
+        (Root::ResourceAttributes, _) => Some(subject.sent().resource.get().attributes.as_slice()),
+        (Root::ScopeAttributes, _) => Some(subject.sent().scope.get().attributes.as_slice()),
+        (Root::EventAttributes, Subject::Event(_, event)) => Some(event.attributes.as_slice()),
+        _ => None,
     }
 }
 
@@ -230,7 +234,7 @@ fn step_into<'a>(value: &Value<'a>, key: &Key) -> Result<Option<Value<'a>>, Eval
 }
 
 /// What keys find, one inside the other.
-pub(crate) fn walk<'a>(value: &Value<'a>, keys: &[Key]) -> Result<Value<'a>, EvalError>
+fn walk<'a>(value: &Value<'a>, keys: &[Key]) -> Result<Value<'a>, EvalError>
     ensures { answer_of result ≡ spec.walk (value_of value.now) keys.now }
 {
     match keys.split_first() {
@@ -240,5 +244,20 @@ pub(crate) fn walk<'a>(value: &Value<'a>, keys: &[Key]) -> Result<Value<'a>, Eva
             Ok(None) => Ok(Value::Nil),
             Err(error) => Err(error),
         },
+    }
+}
+
+/// What a path finds. (Where one key follows attributes, which is most often so, no map is made a value.)
+#[tactic(auto, using(crate::proofs::Comparisons::key_found))]
+pub(crate) fn path_on<'a>(subject: &Subject<'a>, path: &Path) -> Result<Value<'a>, EvalError>
+    ensures { answer_of result ≡ spec.walk (spec.begun path.now.root (subject_of subject.now)) path.now.keys }
+{
+    match (path.keys.as_slice(), attributes_at(path.root, subject)) {
+        ([], _) => Ok(begun(path.root, subject)),
+        ([Key::Text(key)], Some(pairs)) => match look_up(key.as_str(), pairs) {
+            Some(value) => Ok(value),
+            None => Ok(Value::Nil),
+        },
+        (keys, _) => walk(&begun(path.root, subject), keys),
     }
 }

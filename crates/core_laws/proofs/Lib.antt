@@ -1,0 +1,9 @@
+pub mod Extent
+pub mod Multisets
+pub mod Once
+pub mod Sums
+pub mod Out
+pub mod Only
+pub mod Against
+pub mod Bounds
+mod Rows

@@ -1,0 +1,6 @@
+pub mod Early
+pub mod Late
+pub mod InTime
+pub mod Stopping
+mod Rows
+pub mod Waiting

@@ -1,0 +1,4 @@
+pub mod OfSpans
+pub mod OfBytes
+pub mod Windows
+mod Rows

@@ -1,0 +1,5 @@
+use Rattle.rate_windows.proofs.Windows.{any-window-of-budgets}
+use Rattle.rate_windows.proofs.laws.budgets_grant_in_any_window.Goals as goal
+
+pub returns : goal.returns
+returns c = any-window-of-budgets

@@ -1,0 +1,3 @@
+-- To be read in this order: Reports, Answers.
+pub mod Reports
+pub mod Answers

@@ -1,0 +1,3 @@
+pub mod Shards
+pub mod Asked
+pub mod Played
