@@ -97,7 +97,8 @@ fn add_condition(
             pattern_text(alloc, text)?,
         ),
         Err(ConditionFault::ExpressionTooBig) => {
-            big.push(big_expression_text(alloc, text)?)?;
+            let told = big_expression_text(alloc, text)?;
+            big.push(told)?;
             Ok(())
         }
         Err(ConditionFault::NoMemory) => Err(AllocError),
