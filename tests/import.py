@@ -86,11 +86,11 @@ def processor(settings):
 
 
 def as_documented(folder, program):
-    """The example of the processor's documentation becomes what examples/neighbours/tail_sampling.toml has, beside a Collector; but for its condition in OTTL."""
+    """The example of the processor's documentation becomes what examples/neighbours/tail_sampling.toml has, beside a Collector."""
     text = (TOP / "tests/documented.yaml").read_text("utf-8")
     status, output, said = run(folder, program, text, "--beside")
-    want("the status", status, 1)
-    want("what is left out", [it.split(": ")[2] for it in said.splitlines() if ": left out: " in it], ['policy "test-policy-13"'])
+    want("the status", status, 0)
+    want("what is left out", [it for it in said.splitlines() if ": left out: " in it], [])
     want("the configuration", tomllib.loads(output), tomllib.loads((TOP / "examples/neighbours/tail_sampling.toml").read_text("utf-8")))
 
 
