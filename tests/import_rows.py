@@ -48,7 +48,7 @@ POLICIES = [
     ("{name: a, type: span_count, span_count: {min_spans: 2, max_spans: 2}}", of("a", "span_count", "min_spans = 2, max_spans = 2")),
     ("{name: a, type: span_count, span_count: {min_spans: 2}}", of("a", "span_count", "min_spans = 2")),
     ("{name: a, type: ottl_condition, ottl_condition: {error_mode: propagate, span: ['name == \"b\"', 'kind == 2'], spanevent: ['name == \"e\"']}}",
-     of("a", "ottl_condition", 'error_mode = "propagate", span = ["name == \\"b\\"", "kind == 2"], spanevent = ["name == \\"e\\""]')),
+     of("a", "ottl_condition", """error_mode = "propagate", span = ['name == "b"', "kind == 2"], spanevent = ['name == "e"']""")),
     ("{name: a, type: ottl_condition, ottl_condition: {error_mode: ignore, span: ['true']}}", of("a", "ottl_condition", 'span = ["true"]')),
     ("{name: a, type: trace_state, trace_state: {key: key3, values: [value1, value2]}}", of("a", "trace_state", 'key = "key3", values = ["value1", "value2"]')),
     ("{name: a, type: rate_limiting, rate_limiting: {spans_per_second: 35}}", of("a", "rate_limiting", "spans_per_second = 35", f'6: differs: policy "a": rate_limiting: {LIMIT}')),
@@ -327,7 +327,7 @@ processors:
       # the rest
       - { name: all, type: always_sample }
 """, KEPT + f"""
-# line 5: left out: policy "posts": {UNKNOWN}
+# line 6: left out: policy "posts": {UNKNOWN}
 # name: posts
 # type: probability
 # # why
