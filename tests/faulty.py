@@ -22,7 +22,7 @@ TYPES = ", ".join(policy_types())
 NO_LISTENER = "listen: no address: HOST:PORT, [IPV6]:PORT or :PORT is wanted (cannot listen)"
 NO_BACKEND = "export.endpoint: no address: HOST:PORT, with a port from 1 to 65535, is wanted behind http:// (cannot send)"
 TABLES = ("decision_cache", "export")
-WANTED = {"Integer": "a whole number is wanted", "Text": "a text is wanted", "Choice": "a text is wanted", "LogForm": "a text is wanted", "OutputFault": "a text is wanted", "Truth": "true or false is wanted"}
+WANTED = {"Integer": "a whole number is wanted", "Text": "a text is wanted", "Choice": "a text is wanted", "LogForm": "a text is wanted", "OutputFault": "a text is wanted", "ErrorMode": "a text is wanted", "Truth": "true or false is wanted"}
 
 # A name, a text, and its lines; of a text without a fault there is none.
 ROWS = [
@@ -233,6 +233,15 @@ ROWS = [
     ("no states behind values that only follow", 'policies = [{ name = "b", type = "status_code", status_code = {} }, { name = "c", type = "trace_state", trace_state = { key = "k", values = [] } }]', [
         "policies[0].status_code.status_codes: missing (fault 3)",
         "policies: the values or status codes of a policy are an empty list: policies[1].trace_state.values (fault 7.6)"]),
+    ("no condition at all", 'policies = [{ name = "a", type = "ottl_condition", ottl_condition = { span = [] } }]', [
+        "policies: the values or status codes of a policy are an empty list: policies[0].ottl_condition.span (fault 7.6)"]),
+    ("conditions that are none", """policies = [{ name = "a", type = "ottl_condition", ottl_condition = { error_mode = "all", span = ['kind = 2', 'kind', 'true'], spanevent = ['nam == 1'] } }]""", [
+        'policies[0].ottl_condition.error_mode: "all" is none of ignore, silent, propagate (fault 5)',
+        'policies: "kind = 2" is no condition: column 6: no value, name or operator begins with this character (fault 9)',
+        'policies: "kind" is no condition: column 1: a condition is wanted, and a value stands here (fault 9)',
+        'policies: "nam == 1" is no condition: column 1: no path, function or enumeration has this name (fault 9)']),
+    ("a pattern in a condition", """policies = [{ name = "a", type = "ottl_condition", ottl_condition = { span = ['IsMatch(name, "(")'] } }]""", [
+        'policies: "IsMatch(name, \\"(\\")": what IsMatch takes is no regular expression (fault 9)']),
     ("65 policies", "policies = [" + ", ".join(f'{{ name = "{n}", type = "always_sample" }}' for n in range(65)) + "]", ["policies: there are more than 64 policies (fault 7.3)"]),
     ("nine deep", "policies = [" + '{ name = "a", type = "not", not = { not_sub_policy = ' * 8 + ALL + " } }" * 8 + "]", ["policies: policies are nested deeper than 8 (fault 7.2)"]),
 ]
