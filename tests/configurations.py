@@ -39,6 +39,7 @@ FAULTS = [
     (f'policies = [{{ name = "a", type = "not", and = {{ and_sub_policy = [{ALL}] }} }}]', UNKNOWN_KEY),
     ('policies = [{ name = "a", type = "drop" }]', MISSING_KEY),
     ('policies = [{ name = "a", type = "trace_state" }]', MISSING_KEY),
+    ('policies = [{ name = "a", type = "ottl_condition" }]', MISSING_KEY),
     ('policies = [{ name = "a", type = "trace_flags" }]', TAKEN),
     ('policies = [{ name = "a", type = "trace_flags", trace_flags = {} }]', UNKNOWN_KEY),
     ('policies = [{ name = "a", type = "status_code", status_code = { status_codes = ["error"] } }]', OUT_OF_RANGE),
@@ -318,6 +319,24 @@ SETTINGS = {
         ("hash_salt = 1, sampling_percentage = 10", WRONG_TYPE),
         ("sampling_percentage = 10, mode = 1", UNKNOWN_KEY),
     ],
+    "ottl_condition": [
+        ("", NO_VALUES),
+        ("span = []", NO_VALUES),
+        ("span = [], spanevent = []", NO_VALUES),
+        ("span = ['kind == 2']", TAKEN),
+        ("spanevent = ['name == \"a\"']", TAKEN),
+        ("error_mode = 'propagate', span = ['kind == 2', 'true'], spanevent = ['span.kind == 2']", TAKEN),
+        ("error_mode = 'Ignore', span = ['true']", OUT_OF_RANGE),
+        ("error_mode = 1, span = ['true']", WRONG_TYPE),
+        ("span = 'true'", WRONG_TYPE),
+        ("span = [1]", WRONG_TYPE),
+        ("span = ['kind']", NOT_AN_EXPRESSION),
+        ("span = ['kind == 2', '']", NOT_AN_EXPRESSION),
+        ("spanevent = ['kind == 2']", NOT_AN_EXPRESSION),
+        ("span = ['IsMatch(name, \"(\")']", NOT_AN_EXPRESSION),
+        ("span = ['IsMatch(name, \"^a\")']", TAKEN),
+        ("span = ['true'], conditions = ['true']", UNKNOWN_KEY),
+    ],
     "trace_state": [
         ('key = "k", values = ["v"]', TAKEN),
         ('key = "", values = ["", "v"]', TAKEN),
@@ -424,28 +443,30 @@ KINDS = {
     "Truth": ("true", [("1", WRONG_TYPE), ('"true"', WRONG_TYPE), ("[true]", WRONG_TYPE)]),
     "Text": ('"a"', [("1", WRONG_TYPE), ('["a"]', WRONG_TYPE), ("true", WRONG_TYPE)]),
     "Percentage": ("50", [("101", OUT_OF_RANGE), ("-1", OUT_OF_RANGE), ("0.00001", OUT_OF_RANGE), ('"1"', WRONG_TYPE), ("[1]", WRONG_TYPE)]),
+    "ErrorMode": ('"silent"', [("1", WRONG_TYPE), ('["silent"]', WRONG_TYPE), ('"Silent"', OUT_OF_RANGE), ('""', OUT_OF_RANGE)]),
     "Array": ('["OK"]', [("1", WRONG_TYPE), ('"OK"', WRONG_TYPE), ("[1]", WRONG_TYPE), ("{}", WRONG_TYPE)]),
 }  # fmt: skip
 
 
 def by_table(settings):
     """Settings of a type by its table: the required ones, all, each required one left out, each of another type or out of range, and one more."""
-    values = {it.key: KINDS[it.kind][0] for it in settings}
+    values = {it.key: '["true"]' if it.key in ("span", "spanevent") else KINDS[it.kind][0] for it in settings}
     required = [it.key for it in settings if it.is_required]
+    needed = required or [key for key in values if key == "span"]  # (one condition is wanted, on spans or on events)
 
     def written(keys, /, **other):
         return ", ".join(f"{key} = {value}" for key, value in ({key: values[key] for key in keys} | other).items())
 
-    yield written(required), TAKEN
+    yield written(needed), TAKEN
     yield written(values), TAKEN
     yield from ((written(other for other in required if other != key), MISSING_KEY) for key in required)
     for it in settings:
-        yield from ((written(required, **{it.key: value}), fault) for value, fault in KINDS[it.kind][1])
+        yield from ((written(needed, **{it.key: value}), fault) for value, fault in KINDS[it.kind][1])
         if it.kind == "Integer":
             yield from ((written(required, **{it.key: value}), TAKEN) for value in (it.least, it.greatest))
             yield written(required, **{it.key: it.least - 1}), OUT_OF_RANGE
             yield written(required, **{it.key: it.greatest + 1}), NOT_TOML if it.greatest == WHOLE_TOP else OUT_OF_RANGE
-        yield written(required, **{f"{it.key}_": 1}), UNKNOWN_KEY
+        yield written(needed, **{f"{it.key}_": 1}), UNKNOWN_KEY
 
 
 def of_two_faults():

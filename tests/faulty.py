@@ -8,6 +8,7 @@ The lines are worked out by hand from docs/FAULTS.md and docs/CONFIGURATION.md, 
 for each fault, first those of keys and values in the order of those tables (the keys that there aren't first), then those of what they give, where a value with a fault counts as its key's default, and a
 policy's list that isn't there as empty; and behind the faults a line for each address that can't be one.
 """
+import json
 import sys
 
 from tables import policy_types, table_settings
@@ -22,7 +23,31 @@ TYPES = ", ".join(policy_types())
 NO_LISTENER = "listen: no address: HOST:PORT, [IPV6]:PORT or :PORT is wanted (cannot listen)"
 NO_BACKEND = "export.endpoint: no address: HOST:PORT, with a port from 1 to 65535, is wanted behind http:// (cannot send)"
 TABLES = ("decision_cache", "export")
-WANTED = {"Integer": "a whole number is wanted", "Text": "a text is wanted", "Choice": "a text is wanted", "LogForm": "a text is wanted", "OutputFault": "a text is wanted", "Truth": "true or false is wanted"}
+WANTED = {"Integer": "a whole number is wanted", "Text": "a text is wanted", "Choice": "a text is wanted", "LogForm": "a text is wanted", "OutputFault": "a text is wanted", "ErrorMode": "a text is wanted", "Truth": "true or false is wanted"}
+
+NO_NAME, NO_CHARACTER = "no path, function or enumeration has this name", "no value, name or operator begins with this character"
+NO_VALUE, IS_VALUE = "a literal, a path, a function or a parenthesis is wanted", "a condition is wanted, and a value stands here"
+# A text that is no condition, the column of its first fault, and what is said of it.
+NO_CONDITIONS = [
+    ("", 1, NO_VALUE), ("kind == 1 and", 14, NO_VALUE), ("kind < ", 8, NO_VALUE),
+    ("kind", 1, IS_VALUE), ("not kind", 5, IS_VALUE),
+    ("nam == 1", 1, NO_NAME), ('ConvertCase(name, "lower") == "a"', 1, NO_NAME), ("kind == SPAN_KIND_SERVE", 9, NO_NAME), ('spanevent.name == "a"', 1, NO_NAME),
+    ("kind = 2", 6, NO_CHARACTER), ("kind == 'a'", 9, NO_CHARACTER), ('kind == 1 && name == "a"', 11, NO_CHARACTER),
+    ('name == "a', 9, "the text that begins here has no closing quote"),
+    ('name == "a\\qb"', 9, 'one of " \\ a b f n r t v is wanted behind a backslash'),
+    ("kind == 9223372036854775808", 9, "no number of 64 bits is this one"),
+    ('attributes["a"] == 0xabc', 20, "an even number of hex digits is wanted behind 0x"),
+    ("attributes[name] == 1", 12, "a key in quotes or a whole number is wanted"),
+    ('attributes["a" == 1', 16, "] is wanted"),
+    ("IsMatch(name, name)", 15, "a regular expression in quotes is wanted"),
+    ('IsMatch name, "a"', 9, "( is wanted"),
+    ('HasPrefix(name "a")', 16, ", is wanted"),
+    ("(kind == 1", 11, ") is wanted"),
+    ("kind == 1)", 10, "the condition ends before this"),
+    ('name["a"] == 1', 5, "what stands before this has no keys"),
+    ("kind == 1 == true", 11, "a value is wanted, and a condition stands here"),
+    ('name + "a" == "b"', 6, "a number is wanted"),
+]  # fmt: skip
 
 # A name, a text, and its lines; of a text without a fault there is none.
 ROWS = [
@@ -233,6 +258,17 @@ ROWS = [
     ("no states behind values that only follow", 'policies = [{ name = "b", type = "status_code", status_code = {} }, { name = "c", type = "trace_state", trace_state = { key = "k", values = [] } }]', [
         "policies[0].status_code.status_codes: missing (fault 3)",
         "policies: the values or status codes of a policy are an empty list: policies[1].trace_state.values (fault 7.6)"]),
+    ("no condition at all", 'policies = [{ name = "a", type = "ottl_condition", ottl_condition = { span = [] } }]', [
+        "policies: the values or status codes of a policy are an empty list: policies[0].ottl_condition.span (fault 7.6)"]),
+    ("conditions that are none", """policies = [{ name = "a", type = "ottl_condition", ottl_condition = { error_mode = "all", span = ['kind = 2', 'kind', 'true'], spanevent = ['nam == 1'] } }]""", [
+        'policies[0].ottl_condition.error_mode: "all" is none of ignore, silent, propagate (fault 5)',
+        'policies: "kind = 2" is no condition: column 6: no value, name or operator begins with this character (fault 9)',
+        'policies: "kind" is no condition: column 1: a condition is wanted, and a value stands here (fault 9)',
+        'policies: "nam == 1" is no condition: column 1: no path, function or enumeration has this name (fault 9)']),
+    *((f"refused condition {number}", f'policies = [{{ name = "a", type = "ottl_condition", ottl_condition = {{ span = [{json.dumps(condition)}] }} }}]',
+       [f"policies: {json.dumps(condition)} is no condition: column {column}: {why} (fault 9)"]) for number, (condition, column, why) in enumerate(NO_CONDITIONS)),
+    ("a pattern in a condition", """policies = [{ name = "a", type = "ottl_condition", ottl_condition = { span = ['IsMatch(name, "(")'] } }]""", [
+        'policies: "IsMatch(name, \\"(\\")": what IsMatch takes is no regular expression (fault 9)']),
     ("65 policies", "policies = [" + ", ".join(f'{{ name = "{n}", type = "always_sample" }}' for n in range(65)) + "]", ["policies: there are more than 64 policies (fault 7.3)"]),
     ("nine deep", "policies = [" + '{ name = "a", type = "not", not = { not_sub_policy = ' * 8 + ALL + " } }" * 8 + "]", ["policies: policies are nested deeper than 8 (fault 7.2)"]),
 ]

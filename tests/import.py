@@ -86,11 +86,11 @@ def processor(settings):
 
 
 def as_documented(folder, program):
-    """The example of the processor's documentation becomes what examples/neighbours/tail_sampling.toml has, beside a Collector; but for its condition in OTTL."""
+    """The example of the processor's documentation becomes what examples/neighbours/tail_sampling.toml has, beside a Collector."""
     text = (TOP / "tests/documented.yaml").read_text("utf-8")
     status, output, said = run(folder, program, text, "--beside")
-    want("the status", status, 1)
-    want("what is left out", [it.split(": ")[2] for it in said.splitlines() if ": left out: " in it], ['policy "test-policy-13"'])
+    want("the status", status, 0)
+    want("what is left out", [it for it in said.splitlines() if ": left out: " in it], [])
     want("the configuration", tomllib.loads(output), tomllib.loads((TOP / "examples/neighbours/tail_sampling.toml").read_text("utf-8")))
 
 
@@ -122,7 +122,7 @@ def traces(seed):
 def as_transcribed_from_vendors(folder, program, text, toml):
     """A vendor's configuration keeps of 400 random traces what the transcribed one keeps."""
     status, output, _ = run(folder, program, AROUND + text)
-    want("the status", status, int("ottl_condition" in text))
+    want("the status", status, 0)
     script = traces(1)
     printed, wanted = (prints(folder, program, it, script) for it in (output, KEPT + toml))
     want("what is printed is the same", printed == wanted, True)
@@ -178,7 +178,7 @@ def options_of_the_page(*_):
 
 def each_type_and_setting(*_):
     """The types that are brought over are those of the definitions, and a row of the table has each of their settings."""
-    want("the types", sorted(KINDS), sorted([*policy_types(), "ottl_condition"]))
+    want("the types", sorted(KINDS), sorted(policy_types()))
     settings = {(kind, it.key) for kind, found in policy_settings().items() for it in found}
     rows_of = {kind: "".join(toml for text, toml in POLICIES if f"type: {kind}" in text) for kind in policy_types()}
     want("settings in no row", sorted(it for it in settings if f"{it[1]} = " not in rows_of[it[0]]), [])

@@ -13,7 +13,7 @@ def fits_nothing(name, kind, why, key="none", more=""):
     return of(name, "string_attribute", own, f'6: note: policy "{name}": {kind}: {why}, so nothing fits; written as an expression that nothing fits')
 
 
-OTTL = "ottl_condition isn't there; it asks about one span, and attribute policies in an `and` about the whole trace"
+UNKNOWN = "probability is no type that is known"
 LIMIT = "one limit over all shards, and a trace that just reaches it is let through"
 BYTES = "bytes are those of the spans' JSON, two to three times as many as of protobuf; one bucket over all shards"
 
@@ -47,6 +47,9 @@ POLICIES = [
     ("{name: a, type: span_count, span_count: {min_spans: 2, max_spans: 20}}", of("a", "span_count", "min_spans = 2, max_spans = 20")),
     ("{name: a, type: span_count, span_count: {min_spans: 2, max_spans: 2}}", of("a", "span_count", "min_spans = 2, max_spans = 2")),
     ("{name: a, type: span_count, span_count: {min_spans: 2}}", of("a", "span_count", "min_spans = 2")),
+    ("{name: a, type: ottl_condition, ottl_condition: {error_mode: propagate, span: ['name == \"b\"', 'kind == 2'], spanevent: ['name == \"e\"']}}",
+     of("a", "ottl_condition", """error_mode = "propagate", span = ['name == "b"', "kind == 2"], spanevent = ['name == "e"']""")),
+    ("{name: a, type: ottl_condition, ottl_condition: {error_mode: ignore, span: ['true']}}", of("a", "ottl_condition", 'span = ["true"]')),
     ("{name: a, type: trace_state, trace_state: {key: key3, values: [value1, value2]}}", of("a", "trace_state", 'key = "key3", values = ["value1", "value2"]')),
     ("{name: a, type: rate_limiting, rate_limiting: {spans_per_second: 35}}", of("a", "rate_limiting", "spans_per_second = 35", f'6: differs: policy "a": rate_limiting: {LIMIT}')),
     ("{name: a, type: bytes_limiting, bytes_limiting: {bytes_per_second: 1048576, burst_capacity: 5242880}}",
@@ -75,16 +78,16 @@ POLICIES = [
      '# line 6: differs: policy "a": composite.policy_order: not the order of composite_sub_policy, by which the processor\'s code asks (its documentation says: by policy_order) and which is written\n'
      + of("a", "composite") + '\n[policies.composite]\nmax_total_spans_per_second = 7\npolicy_order = ["b", "c"]\ncomposite_sub_policy = [\n    { name = "b", type = "always_sample" },\n'
      '    { name = "c", type = "trace_flags" },\n]\n'),
-    ("{name: a, type: composite, composite: {max_total_spans_per_second: 7, composite_sub_policy: [{name: b, type: always_sample}, {name: c, type: ottl_condition}], "
+    ("{name: a, type: composite, composite: {max_total_spans_per_second: 7, composite_sub_policy: [{name: b, type: always_sample}, {name: c, type: probability}], "
      "rate_allocation: [{policy: b, percent: 101}, {policy: c, percent: 2}]}}",
-     f'# line 6: left out: policy "a": composite.composite_sub_policy: a part, so that equal shares are of fewer: policy "c": {OTTL}\n'
+     f'# line 6: left out: policy "a": composite.composite_sub_policy: a part, so that equal shares are of fewer: policy "c": {UNKNOWN}\n'
      '# line 6: left out: policy "a": composite.rate_allocation: percent: 101 is not from 1 to 100, so 100 is written\n'
      "# line 6: note: policy \"a\": composite.rate_allocation: c is no part, so it isn't written\n"
      + of("a", "composite") + '\n[policies.composite]\nmax_total_spans_per_second = 7\ncomposite_sub_policy = [\n    { name = "b", type = "always_sample" },\n]\n'
      'rate_allocation = [\n    { policy = "b", percent = 100 },\n]\n'),
-    ("{name: a, type: composite, composite: {max_total_spans_per_second: 7, policy_order: [b, c, d], composite_sub_policy: [{name: b, type: always_sample}, {name: c, type: ottl_condition}, "
+    ("{name: a, type: composite, composite: {max_total_spans_per_second: 7, policy_order: [b, c, d], composite_sub_policy: [{name: b, type: always_sample}, {name: c, type: probability}, "
      "{name: d, type: trace_flags}]}}",
-     f'# line 6: left out: policy "a": composite.composite_sub_policy: a part, so that equal shares are of fewer: policy "c": {OTTL}\n'
+     f'# line 6: left out: policy "a": composite.composite_sub_policy: a part, so that equal shares are of fewer: policy "c": {UNKNOWN}\n'
      + of("a", "composite") + '\n[policies.composite]\nmax_total_spans_per_second = 7\npolicy_order = ["b", "d"]\ncomposite_sub_policy = [\n    { name = "b", type = "always_sample" },\n'
      '    { name = "d", type = "trace_flags" },\n]\n'),
     # What can't sample anything is refused here, and taken there.
@@ -119,10 +122,11 @@ POLICIES = [
 
 # A policy in YAML, in line 6 of its file before another one, that is left out whole and stands in the output as a comment; and why.
 LEFT_OUT = [
-    ("{name: a, type: ottl_condition, ottl_condition: {span: ['name == \"b\"']}}", f'policy "a": {OTTL}'),
-    ("{name: a, type: and, and: {and_sub_policy: [{name: b, type: trace_flags}, {name: c, type: ottl_condition}]}}", f'policy "a": a part of it can\'t be written: policy "c": {OTTL}'),
-    ("{name: a, type: drop, drop: {drop_sub_policy: [{name: b, type: trace_flags}, {name: c, type: ottl_condition}]}}", f'policy "a": a part of it can\'t be written: policy "c": {OTTL}'),
-    ("{name: a, type: not, not: {not_sub_policy: {name: c, type: ottl_condition}}}", f'policy "a": a part of it can\'t be written: policy "c": {OTTL}'),
+    ("{name: a, type: ottl_condition, ottl_condition: {error_mode: ignore}}", 'policy "a": ottl_condition.span and spanevent are empty, which the processor refuses too'),
+    ("{name: a, type: ottl_condition, ottl_condition: {error_mode: never, span: ['true']}}", 'policy "a": ottl_condition.error_mode: never is none of ignore, silent, propagate'),
+    ("{name: a, type: and, and: {and_sub_policy: [{name: b, type: trace_flags}, {name: c, type: probability}]}}", f'policy "a": a part of it can\'t be written: policy "c": {UNKNOWN}'),
+    ("{name: a, type: drop, drop: {drop_sub_policy: [{name: b, type: trace_flags}, {name: c, type: probability}]}}", f'policy "a": a part of it can\'t be written: policy "c": {UNKNOWN}'),
+    ("{name: a, type: not, not: {not_sub_policy: {name: c, type: probability}}}", f'policy "a": a part of it can\'t be written: policy "c": {UNKNOWN}'),
     ("{name: a, type: and, and: {and_sub_policy: []}}", 'policy "a": and.and_sub_policy is empty'),
     ("{name: a, type: composite, composite: {max_total_spans_per_second: 5}}", 'policy "a": composite.composite_sub_policy has nothing that can be written'),
     ("{name: a, type: probability}", 'policy "a": probability is no type that is known'),
@@ -314,20 +318,20 @@ processors:
   tail_sampling:
     policies:
       - name: posts
-        type: ottl_condition
+        type: probability
         # why
-        ottl_condition:
+        probability:
           span:
             - 'name == "a"'
 
       # the rest
       - { name: all, type: always_sample }
 """, KEPT + f"""
-# line 5: left out: policy "posts": {OTTL}
+# line 6: left out: policy "posts": {UNKNOWN}
 # name: posts
-# type: ottl_condition
+# type: probability
 # # why
-# ottl_condition:
+# probability:
 #   span:
 #     - 'name == "a"'
 """ + ALL),

@@ -160,7 +160,6 @@ policies = [
     { name = "some", type = "rate_limiting", rate_limiting = { spans_per_second = 12 } },
 ]
 """),
-    # What the condition asks can't be written, so it is left out of both.
     ("a condition in OTTL, beside a tenth", """    decision_wait: 10s
     policies:
       - name: failed-posts
@@ -171,6 +170,9 @@ policies = [
             - attributes["http.status_code"] >= 500 and attributes["http.method"] == "POST"
       - { name: tenth, type: probabilistic, probabilistic: { sampling_percentage: 10 } }
 """, """decision_wait_ms = 10000
-policies = [{ name = "tenth", type = "probabilistic", probabilistic = { sampling_percentage = 10 } }]
+policies = [
+    { name = "failed-posts", type = "ottl_condition", ottl_condition = { span = ['attributes["http.status_code"] >= 500 and attributes["http.method"] == "POST"'] } },
+    { name = "tenth", type = "probabilistic", probabilistic = { sampling_percentage = 10 } },
+]
 """),
 ]

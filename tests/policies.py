@@ -377,6 +377,7 @@ KINDS = [
     ("rate_limiting", "spans_per_second = 1000"),
     ("bytes_limiting", "bytes_per_second = 1000000"),
     ("trace_state", 'key = "k", values = ["v"]'),
+    ("ottl_condition", 'span = ["true"]'),
     ("trace_flags", ""),
     ("and", 'and_sub_policy = [{ name = "all", type = "always_sample" }]'),
     ("not", 'not_sub_policy = { name = "many", type = "span_count", span_count = { min_spans = 9 } }'),

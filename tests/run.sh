@@ -449,7 +449,7 @@ no_memory() {
 }
 
 # Runs at the limits of the collector, with ample memory, of each policy at its bounds, and of configurations that are taken and refused:
-# tests/limits.py, tests/policies.py, tests/configurations.py and tests/transcribed.py make them, with what must come out.
+# tests/limits.py, tests/policies.py, tests/configurations.py, tests/transcribed.py and tests/conditions_kept.py make them, with what must come out.
 made_runs() {
     local name status
     while read -r name; do
@@ -470,7 +470,7 @@ if [ $# -eq 0 ]; then
     (cd "$top/crates/collector_main" && rt run -- replay ../../examples/errors.toml < /dev/null > /dev/null) || give_up "the program isn't built"
     set -- "$top/crates/collector_main/out/collector_main"
 fi
-for runs in limits policies configurations transcribed; do
+for runs in limits policies configurations transcribed conditions_kept; do
     PYTHONDONTWRITEBYTECODE=1 "$top/tests/$runs.py" "$work" >> "$work/names" || give_up "no $runs"
 done
 PYTHONDONTWRITEBYTECODE=1 "$top/tests/faulty.py" "$work" > "$work/faulty" || give_up "no faulty configurations"

@@ -98,6 +98,16 @@ def trace_state(own):
     return {"key": key, "values": values} if values else never(own, "values is empty", key)
 
 
+def ottl_condition(own):
+    """Conditions on spans and on their events, which are written as they stand."""
+    mode, lists = own.text("error_mode", "ignore"), {name: own.texts(name) for name in ("span", "spanevent")}
+    if mode not in ("ignore", "silent", "propagate"):
+        raise Unfit(own.line, f"{own.where('error_mode')}: {mode} is none of ignore, silent, propagate")
+    if not any(lists.values()):
+        raise Unfit(own.line, f"{own.where('span')} and spanevent are empty, which the processor refuses too")
+    return {**({"error_mode": mode} if mode != "ignore" else {}), **{name: texts for name, texts in lists.items() if texts}}
+
+
 def rate_limiting(own):
     """So many spans a second."""
     own.tell("differs", "", "one limit over all shards, and a trace that just reaches it is let through")
@@ -111,8 +121,8 @@ def bytes_limiting(own):
     return {"bytes_per_second": rate, **({"burst_capacity": burst} if burst else {})}
 
 
-LEAVES = {it.__name__: it for it in (latency, numeric_attribute, probabilistic, status_code, string_attribute, boolean_attribute, span_count, trace_state, rate_limiting, bytes_limiting)}
-KINDS = ("always_sample", "trace_flags", "ottl_condition", "not", *LEAVES, *LISTS)
+LEAVES = {it.__name__: it for it in (latency, numeric_attribute, probabilistic, status_code, string_attribute, boolean_attribute, span_count, trace_state, ottl_condition, rate_limiting, bytes_limiting)}
+KINDS = ("always_sample", "trace_flags", "not", *LEAVES, *LISTS)
 
 
 def policy_of(node, default, names):
@@ -125,8 +135,6 @@ def policy_of(node, default, names):
         section.tell("note", "", f"{'no name' if given is default else 'another policy of its list has that name'}, so {toml(name)} is written")
     names.add(name)
     kind = section.text("type")
-    if kind == "ottl_condition":
-        raise Unfit(section.line, f"{label}ottl_condition isn't there; it asks about one span, and attribute policies in an `and` about the whole trace")
     if kind not in KINDS:
         raise Unfit(kind.line, f"{label}{kind} is no type that is known")
     own = Section(section.take(kind), f"{label}{kind}", section.line)

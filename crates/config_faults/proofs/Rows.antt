@@ -196,6 +196,7 @@ own =
     ∷ record { kind = type_is.BytesLimiting; keys = codes "bytes_per_second" ∷ codes "burst_capacity" ∷ []; other = codes "spans_per_second" }
     ∷ record { kind = type_is.Probabilistic; keys = codes "hash_salt" ∷ codes "sampling_percentage" ∷ []; other = codes "percentage" }
     ∷ record { kind = type_is.TraceState; keys = codes "key" ∷ codes "values" ∷ []; other = codes "invert_match" }
+    ∷ record { kind = type_is.OttlCondition; keys = codes "error_mode" ∷ codes "span" ∷ codes "spanevent" ∷ []; other = codes "conditions" }
     ∷ record { kind = type_is.And; keys = codes "and_sub_policy" ∷ []; other = codes "policies" }
     ∷ record { kind = type_is.Not; keys = codes "not_sub_policy" ∷ []; other = codes "and_sub_policy" }
     ∷ record { kind = type_is.Drop; keys = codes "drop_sub_policy" ∷ []; other = codes "not_sub_policy" }
@@ -224,7 +225,7 @@ burst_ranges = refl
 
 -- where a policy has no settings, a key is missing of each type that has a required one
 missing_settings : map (λ (kind : PolicyType). rows_fault kind no_members) all_types
-    ≡ None ∷ Some MissingKey ∷ Some MissingKey ∷ Some MissingKey ∷ Some MissingKey ∷ Some MissingKey ∷ Some MissingKey ∷ Some MissingKey ∷ Some MissingKey ∷ Some MissingKey ∷ Some MissingKey ∷ None ∷ None ∷ None ∷ None ∷ Some MissingKey ∷ []
+    ≡ None ∷ Some MissingKey ∷ Some MissingKey ∷ Some MissingKey ∷ Some MissingKey ∷ Some MissingKey ∷ Some MissingKey ∷ Some MissingKey ∷ Some MissingKey ∷ Some MissingKey ∷ Some MissingKey ∷ None ∷ None ∷ None ∷ None ∷ None ∷ Some MissingKey ∷ []
 missing_settings = refl
 
 -- each type by its name

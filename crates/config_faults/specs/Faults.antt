@@ -116,6 +116,15 @@ abbrev pub output_fault_fault : Data → Option ConfigFault
 output_fault_fault (string text) = if is_output_fault text then None else Some OutOfRange
 output_fault_fault _ = Some WrongType
 
+-- what an error of a condition does
+abbrev pub is_error_mode : (text : List ℕ) → Bool
+is_error_mode text = bytes_eq text (codes "ignore") || (bytes_eq text (codes "silent") || bytes_eq text (codes "propagate"))
+
+-- one of them is wanted
+abbrev pub error_mode_fault : Data → Option ConfigFault
+error_mode_fault (string text) = if is_error_mode text then None else Some OutOfRange
+error_mode_fault _ = Some WrongType
+
 -- a text that names a type of policy is wanted
 abbrev pub type_fault : Data → Option ConfigFault
 type_fault (string text) = named_fault (type_of (string text))
@@ -181,6 +190,7 @@ wanted_fault value_is.PolicyType = type_fault
 wanted_fault (value_is.Choice key) = choice_fault (choice_row key)
 wanted_fault value_is.LogForm = log_fault
 wanted_fault value_is.OutputFault = output_fault_fault
+wanted_fault value_is.ErrorMode = error_mode_fault
 wanted_fault value_is.Percentage = percentage_fault
 wanted_fault (value_is.Array kind) = array_fault (item_fault kind)
 

@@ -21,6 +21,7 @@ type_name type_is.RateLimiting = codes "rate_limiting"
 type_name type_is.BytesLimiting = codes "bytes_limiting"
 type_name type_is.Probabilistic = codes "probabilistic"
 type_name type_is.TraceState = codes "trace_state"
+type_name type_is.OttlCondition = codes "ottl_condition"
 type_name type_is.TraceFlags = codes "trace_flags"
 type_name type_is.And = codes "and"
 type_name type_is.Not = codes "not"
@@ -37,7 +38,7 @@ has_settings _ = true
 abbrev pub all_types : List PolicyType
 all_types =
     type_is.AlwaysSample ∷ type_is.Latency ∷ type_is.StatusCode ∷ type_is.StringAttribute ∷ type_is.NumericAttribute ∷ type_is.BooleanAttribute ∷ type_is.SpanCount
-    ∷ type_is.RateLimiting ∷ type_is.BytesLimiting ∷ type_is.Probabilistic ∷ type_is.TraceState ∷ type_is.TraceFlags ∷ type_is.And ∷ type_is.Not ∷ type_is.Drop ∷ type_is.Composite ∷ []
+    ∷ type_is.RateLimiting ∷ type_is.BytesLimiting ∷ type_is.Probabilistic ∷ type_is.TraceState ∷ type_is.OttlCondition ∷ type_is.TraceFlags ∷ type_is.And ∷ type_is.Not ∷ type_is.Drop ∷ type_is.Composite ∷ []
 
 -- a whole number from 0 to 2^63-1
 abbrev pub natural : ValueKind
@@ -56,6 +57,7 @@ settings type_is.RateLimiting = required (codes "spans_per_second") natural ∷ 
 settings type_is.BytesLimiting = required (codes "bytes_per_second") natural ∷ optional (codes "burst_capacity") natural ∷ []
 settings type_is.Probabilistic = optional (codes "hash_salt") value_is.Text ∷ required (codes "sampling_percentage") value_is.Percentage ∷ []
 settings type_is.TraceState = required (codes "key") value_is.Text ∷ required (codes "values") (value_is.Array item_is.Text) ∷ []
+settings type_is.OttlCondition = optional (codes "error_mode") value_is.ErrorMode ∷ optional (codes "span") (value_is.Array item_is.Text) ∷ optional (codes "spanevent") (value_is.Array item_is.Text) ∷ []
 settings type_is.Composite = required (codes "max_total_spans_per_second") natural ∷ optional (codes "policy_order") (value_is.Array item_is.Text) ∷ optional (codes "rate_allocation") (value_is.Array item_is.Allocation) ∷ []
 settings _ = []
 

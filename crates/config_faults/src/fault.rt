@@ -27,7 +27,8 @@ pub enum ConfigFault {
     /// 8: memory was refused. Where it was refused while the text was parsed, the text may have any other fault.
     NoMemory,
     /// 9: a text in `values` is no regular expression, where `enabled_regex_matching` is set (tailsamplingprocessor
-    /// README, `string_attribute`). `tsc_config::read` answers it only of a text that has none of the faults 1 to 7;
+    /// README, `string_attribute`); or a text in `span` or `spanevent` is no condition, or one in it no regular
+    /// expression (`ottl_condition`). `tsc_config::read` answers it only of a text that has none of the faults 1 to 7;
     /// `config_findings::faults` tells it beside others, but where the policies have a fault of their own (7).
     NotAnExpression,
     /// 10: an expression, compiled, would take more than about 1 MiB. `tsc_config::read` answers it only of a text that

@@ -25,6 +25,7 @@ pub enum PolicyType {
     BytesLimiting,
     Probabilistic,
     TraceState,
+    OttlCondition,
     TraceFlags,
     And,
     Not,
@@ -49,6 +50,7 @@ impl PolicyType {
             PolicyType::BytesLimiting,
             PolicyType::Probabilistic,
             PolicyType::TraceState,
+            PolicyType::OttlCondition,
             PolicyType::TraceFlags,
             PolicyType::And,
             PolicyType::Not,
@@ -73,6 +75,7 @@ impl PolicyType {
             PolicyType::BytesLimiting => "bytes_limiting",
             PolicyType::Probabilistic => "probabilistic",
             PolicyType::TraceState => "trace_state",
+            PolicyType::OttlCondition => "ottl_condition",
             PolicyType::TraceFlags => "trace_flags",
             PolicyType::And => "and",
             PolicyType::Not => "not",
@@ -125,6 +128,11 @@ impl PolicyType {
             PolicyType::TraceState => &[
                 Setting::Required("key", ValueKind::Text),
                 Setting::Required("values", ValueKind::Array(ItemKind::Text)),
+            ],
+            PolicyType::OttlCondition => &[
+                Setting::Optional("error_mode", ValueKind::ErrorMode),
+                Setting::Optional("span", ValueKind::Array(ItemKind::Text)),
+                Setting::Optional("spanevent", ValueKind::Array(ItemKind::Text)),
             ],
             PolicyType::Composite => &[
                 Setting::Required("max_total_spans_per_second", NATURAL),

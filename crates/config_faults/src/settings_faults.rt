@@ -145,6 +145,7 @@ pub fn value_fault(value: &Value, wanted: ValueKind) -> Option<ConfigFault>
         (ValueKind::Choice(key), Value::String(text)) => choice_fault(key, text.as_str()),
         (ValueKind::LogForm, Value::String(text)) => log_fault(text.as_str()),
         (ValueKind::OutputFault, Value::String(text)) => output_fault_fault(text.as_str()),
+        (ValueKind::ErrorMode, Value::String(text)) => error_mode_fault(text.as_str()),
         (ValueKind::Endpoint, Value::String(text)) => {
             if is_endpoint(text.as_bytes()) {
                 None
@@ -181,6 +182,16 @@ fn output_fault_fault(text: &str) -> Option<ConfigFault>
 {
     match text {
         "discard" | "stop" | "retry" => None,
+        _ => Some(ConfigFault::OutOfRange),
+    }
+}
+
+/// The fault that a text names nothing that an error of a condition does.
+fn error_mode_fault(text: &str) -> Option<ConfigFault>
+    ensures { result ≡ spec.error_mode_fault (string text.now) }
+{
+    match text {
+        "ignore" | "silent" | "propagate" => None,
         _ => Some(ConfigFault::OutOfRange),
     }
 }

@@ -7,7 +7,7 @@ use Rattle.std.specs.Result.{result_err}
 use Rattle.std.specs.Str.{bytes_eq}
 use Rattle.toml.specs.Data.{Data, array, table, Items, no_items, item, Members, no_members, member, get_member}
 use Rattle.toml.specs.Parse.{parse_document}
-use Rattle.expression.specs.Expressions.{is_expression}
+use Rattle.policy_tree.specs.declared.expressions.PolicyExpression.{PolicyExpression}
 use Rattle.policy_tree.specs.Faults.{fault_of_policies}
 use Rattle.policy_tree.specs.declared.fault.PolicyFault.{PolicyFault}
 use Rattle.policy_tree.specs.declared.policy.Join.{Join}
@@ -20,7 +20,7 @@ use Rattle.tsc_config.specs.FaultSets.{IsLeastOf, OptionalHas, RequiredHas, Some
 use Rattle.config_findings.specs.FaultLists as spec
 use Rattle.config_findings.specs.FaultLists.{ListsAll, listed, unknown_faults, items_faults, value_faults, optional_faults, required_faults, setting_faults, rows_faults, settings_faults, head_settings, is_joined, typed_faults, own_faults, policy_table_faults, table_faults, of_policies, expressions_faults, of_expressions, given_faults, document_faults, text_faults}
 use Rattle.config_faults.specs.Setting.{Setting}
-use Rattle.tsc_config.specs.Reading.{expressions_among, reading}
+use Rattle.tsc_config.specs.Reading.{is_one, expressions_among, reading}
 use Rattle.tsc_config.specs.Values.{config_of}
 use Rattle.tsc_config.proofs.FaultSets.{as_well}
 use Rattle.tsc_config.proofs.SomeIsNone.{none_of_none, first_or_later, at_first, later}
@@ -254,15 +254,15 @@ of_policies_all (Some p) fault = (λ c. (p, refl, (one (Policy p) fault).0 c), b
     back : (q : PolicyFault) × (Some p ≡ Some q) × (fault ≡ Policy q) → Contains (Policy p ∷ []) fault
     back (q, e, f) = let here : p ≡ q = cc in (one (Policy p) fault).1 (rw here f)
 
-expressions_all : (texts : List (List ℕ)) → ListsAll (λ fault. (fault ≡ NotAnExpression) × SomeIsNone texts) (expressions_faults texts)
+expressions_all : (texts : List PolicyExpression) → ListsAll (λ fault. (fault ≡ NotAnExpression) × SomeIsNone texts) (expressions_faults texts)
 expressions_all [] = λ fault. (λ c. absurd (empty fault c), λ h. absurd (none_of_none h.1))
-expressions_all (text ∷ rest) = of (is_expression text) refl (expressions_all rest)
+expressions_all (text ∷ rest) = of (is_one text) refl (expressions_all rest)
   where
-    left : is_expression text ≡ true → (is_expression text ≡ false) ⊎ SomeIsNone rest → SomeIsNone rest
+    left : is_one text ≡ true → (is_one text ≡ false) ⊎ SomeIsNone rest → SomeIsNone rest
     left n (inl m) = cc
     left n (inr l) = l
 
-    of : (r : Bool) → is_expression text ≡ r → ListsAll (λ fault. (fault ≡ NotAnExpression) × SomeIsNone rest) (expressions_faults rest)
+    of : (r : Bool) → is_one text ≡ r → ListsAll (λ fault. (fault ≡ NotAnExpression) × SomeIsNone rest) (expressions_faults rest)
         → ListsAll (λ fault. (fault ≡ NotAnExpression) × SomeIsNone (text ∷ rest)) ((if r then [] else NotAnExpression ∷ []) ++ expressions_faults rest)
     of true n deeper = λ fault. (λ c. let h = (deeper fault).0 c in (h.0, later text rest h.1), λ h. (deeper fault).1 (h.0, left n (first_or_later text rest h.1)))
     of false n deeper =
@@ -274,7 +274,7 @@ expressions_all (text ∷ rest) = of (is_expression text) refl (expressions_all 
         of_either f (inl e) = e
         of_either f (inr h) = h.0
 
-of_expressions_all : (found : Option PolicyFault) (texts : List (List ℕ)) → ListsAll (λ fault. (fault ≡ NotAnExpression) × (found ≡ None) × SomeIsNone texts) (of_expressions found texts)
+of_expressions_all : (found : Option PolicyFault) (texts : List PolicyExpression) → ListsAll (λ fault. (fault ≡ NotAnExpression) × (found ≡ None) × SomeIsNone texts) (of_expressions found texts)
 of_expressions_all None texts fault = (λ c. let h = (expressions_all texts fault).0 c in (h.0, refl, h.1), λ h. (expressions_all texts fault).1 (h.0, h.2))
 of_expressions_all (Some p) texts fault = (λ c. absurd (empty fault c), λ h. let wrong : Some p ≡ None = h.1 in cc)
 

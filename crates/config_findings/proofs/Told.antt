@@ -1,12 +1,12 @@
 -- What is told of a text: its faults, and behind them that some of its expressions are too big.
 -- For the contract of `faults`.
 use Rattle.std.proofs.Common.{◌≡◌, ◌≢◌, ◌++◌, ℕ, zero, suc, ◌≤◌, ◌⊎◌, inl, inr, refl, ap, ◌∙◌, arith, List, [], ◌∷◌, Option, None, Some, Result, Ok, Err, IsOk, IsErr, IfOk, replicate, count_by, Vec}
-use Rattle.expression.specs.Expressions.{is_expression}
+use Rattle.policy_tree.specs.declared.expressions.PolicyExpression.{PolicyExpression}
 use Rattle.policy_tree.specs.Faults.{fault_of_policies}
 use Rattle.policy_tree.specs.declared.fault.PolicyFault.{PolicyFault}
 use Rattle.config_findings.specs.FaultLists.{Tells, faults_in, looked_at, policies_expressions, document_expressions, text_faults, text_expressions}
 use Rattle.tsc_config.specs.FaultSets.{MayBeTooBig}
-use Rattle.tsc_config.specs.Reading.{expressions_among, reading}
+use Rattle.tsc_config.specs.Reading.{is_one, expressions_among, reading}
 use Rattle.tsc_config.specs.Values.{config_of}
 use Rattle.config_findings.proofs.FaultLists.{none_listed}
 use Rattle.tsc_config.proofs.Settings.{read_as}
@@ -25,7 +25,7 @@ none_found [] text (big, e, few) same = (none_listed text).0 (nothing (text_faul
 none_found (first ∷ rest) text told same = cc
 
 -- policies without an expression have none that is too big
-none_looked_at : (found : Option PolicyFault) (texts : List (List ℕ)) → texts ≡ [] → count_by is_expression (looked_at found texts) ≡ 0
+none_looked_at : (found : Option PolicyFault) (texts : List PolicyExpression) → texts ≡ [] → count_by is_one (looked_at found texts) ≡ 0
 none_looked_at None texts e = rw e refl
 none_looked_at (Some fault) texts e = refl
 

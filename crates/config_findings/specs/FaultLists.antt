@@ -4,7 +4,8 @@ use Rattle.std.specs.List.{Contains}
 use Rattle.std.specs.Str.{bytes_eq}
 use Rattle.toml.specs.Data.{Data, array, table, Items, no_items, item, Members, no_members, member, get_member}
 use Rattle.toml.specs.Parse.{parse_document}
-use Rattle.expression.specs.Expressions.{is_expression}
+use Rattle.policy_tree.specs.declared.expressions.ExpressionKind.{ExpressionKind}
+use Rattle.policy_tree.specs.declared.expressions.PolicyExpression.{PolicyExpression}
 use Rattle.policy_tree.specs.Faults.{fault_of_policies}
 use Rattle.policy_tree.specs.declared.fault.PolicyFault.{PolicyFault}
 use Rattle.policy_tree.specs.declared.policy.Policy as tree
@@ -15,7 +16,7 @@ use Rattle.config_faults.specs.PolicyTypes.{settings, type_name}
 use Rattle.config_faults.specs.Tables.{top_settings, cache_settings, export_settings}
 use Rattle.config_faults.specs.Keys.{is_key, type_at, join_type, join_name, sub_key, join_at}
 use Rattle.config_faults.specs.Faults.{item_fault, wanted_fault, order_fault, twice_fault}
-use Rattle.tsc_config.specs.Reading.{expressions_among}
+use Rattle.tsc_config.specs.Reading.{is_one, is_one_as, expressions_among}
 use Rattle.tsc_config.specs.Values.{config_of}
 use Rattle.tsc_config.specs.declared.config.Config.{Config}
 use Rattle.config_faults.specs.declared.fault.ConfigFault.{ConfigFault}
@@ -172,19 +173,22 @@ abbrev pub of_policies : Option PolicyFault → List ConfigFault
 of_policies None = []
 of_policies (Some fault) = Policy fault ∷ []
 
--- that of a text that is wanted to be a regular expression
-abbrev pub expression_faults : List ℕ → List ConfigFault
-expression_faults text = if is_expression text then [] else NotAnExpression ∷ []
+-- that of a text that is wanted to be a regular expression or a condition
+abbrev pub faults_as : ExpressionKind → (text : List ℕ) → List ConfigFault
+faults_as kind text = if is_one_as kind text then [] else NotAnExpression ∷ []
+
+abbrev pub expression_faults : PolicyExpression → List ConfigFault
+expression_faults e = faults_as e.kind e.text
 
 -- one for each text that is none
-abbrev pub expressions_faults : List (List ℕ) → List ConfigFault
+abbrev pub expressions_faults : List PolicyExpression → List ConfigFault
 expressions_faults [] = []
-expressions_faults (text ∷ rest) = expression_faults text ++ expressions_faults rest
+expressions_faults (e ∷ rest) = expression_faults e ++ expressions_faults rest
 
 -- those of the expressions of policies, where these have no fault
-abbrev pub of_expressions : Option PolicyFault → List (List ℕ) → List ConfigFault
-of_expressions None texts = expressions_faults texts
-of_expressions (Some fault) texts = []
+abbrev pub of_expressions : Option PolicyFault → List PolicyExpression → List ConfigFault
+of_expressions None expressions = expressions_faults expressions
+of_expressions (Some fault) expressions = []
 
 -- those of the policies, and of their expressions
 abbrev pub policies_given_faults : List tree.Policy → List ConfigFault
@@ -203,14 +207,14 @@ document_faults (Some members) = table_faults members ++ given_faults (config_of
 abbrev pub text_faults : List ℕ → List ConfigFault
 text_faults text = document_faults (parse_document text)
 
--- the texts of policies that are looked at as expressions: where these have no fault
-abbrev pub looked_at : Option PolicyFault → List (List ℕ) → List (List ℕ)
-looked_at None texts = texts
-looked_at (Some fault) texts = []
+-- the expressions of policies that are looked at: where these have no fault
+abbrev pub looked_at : Option PolicyFault → List PolicyExpression → List PolicyExpression
+looked_at None expressions = expressions
+looked_at (Some fault) expressions = []
 
 -- how many expressions policies have, where these have no fault
 abbrev pub policies_expressions : List tree.Policy → ℕ
-policies_expressions policies = count_by is_expression (looked_at (fault_of_policies policies) (expressions_among policies))
+policies_expressions policies = count_by is_one (looked_at (fault_of_policies policies) (expressions_among policies))
 
 -- how many the policies of a document have
 abbrev pub document_expressions : Option Members → ℕ

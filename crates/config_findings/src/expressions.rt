@@ -1,16 +1,17 @@
-//! The faults of the regular expressions of policies (tailsamplingprocessor README, `string_attribute`,
-//! `enabled_regex_matching`).
+//! The faults of the regular expressions and the conditions of policies (tailsamplingprocessor README, `string_attribute`,
+//! `enabled_regex_matching`; `ottl_condition`).
 ghost use Rattle.std.specs.Prelude.{◌≡◌, ◌++◌, ◌+◌, ◌≤◌, OnOk, if◌then◌else◌, length, count_by};
 ghost use Rattle.config_findings.specs.FaultLists as spec;
-ghost use Rattle.expression.specs.Expressions.{is_expression};
-ghost use Rattle.tsc_config.specs.Reading.{expressions_among};
+ghost use Rattle.tsc_config.specs.Reading.{expressions_among, is_one, is_one_as};
+ghost use Rattle.policy_tree.specs.declared.expressions.ExpressionKind.TheVariants.{Regular, Condition};
 
-use crate::finding_texts::{big_expression_text, no_expression_text};
+use crate::finding_texts::{big_expression_text, condition_text, no_expression_text, pattern_text};
 use crate::findings::Findings;
 use config_faults::ConfigFault;
 use expression::{ExpressionFault, check};
-use otlp_types::Text;
-use policy_tree::Policies;
+use ottl_lists::ConditionFault;
+use ottl_text::Context;
+use policy_tree::{ExpressionKind, Policies, PolicyExpression};
 use std::alloc::{AllocError, Global};
 
 /// Adds the faults of each expression of policies, and what is said of those that are too big.
@@ -21,30 +22,35 @@ pub fn add_expressions(
     big: &mut Vec<String>,
 ) -> Result<(), AllocError>
     ensures faults { OnOk result (findings.new ≡ findings.old ++ spec.expressions_faults (expressions_among policies.now)) }
-    ensures big { OnOk result (length big.new.items ≤ length big.old.items + count_by is_expression (expressions_among policies.now)) }
+    ensures big { OnOk result (length big.new.items ≤ length big.old.items + count_by is_one (expressions_among policies.now)) }
 {
-    let texts = policies.expressions(alloc)?;
-    add_texts(alloc, texts.as_slice(), findings, big)
+    let expressions = policies.expressions(alloc)?;
+    add_all(alloc, expressions.as_slice(), findings, big)
 }
 
-/// Adds the faults of each of these texts, which are wanted to be expressions, and what is said of those that are too
-/// big.
-fn add_texts(
+/// Adds the faults of each of these, and what is said of those that are too big.
+fn add_all(
     alloc: Global,
-    texts: &[Text],
+    expressions: &[PolicyExpression],
     findings: &mut Findings,
     big: &mut Vec<String>,
 ) -> Result<(), AllocError>
-    ensures faults { OnOk result (findings.new ≡ findings.old ++ spec.expressions_faults texts.now) }
-    ensures big { OnOk result (length big.new.items ≤ length big.old.items + count_by is_expression texts.now) }
+    ensures faults { OnOk result (findings.new ≡ findings.old ++ spec.expressions_faults expressions.now) }
+    ensures big { OnOk result (length big.new.items ≤ length big.old.items + count_by is_one expressions.now) }
 {
-    for text in texts {
-        add_text(alloc, text.as_str(), findings, big)?;
+    for expression in expressions {
+        let text = expression.text.as_str();
+        match expression.kind {
+            ExpressionKind::Regular => add_text(alloc, text, findings, big)?,
+            ExpressionKind::Condition(context) => {
+                add_condition(alloc, context, text, findings, big)?
+            }
+        }
     }
     Ok(())
 }
 
-/// Adds the fault of a text that is wanted to be an expression, where it has one, or what is said of one that is too
+/// Adds the fault of a text that is wanted to be a regular expression, where it has one, or what is said of one that is too
 /// big.
 fn add_text(
     alloc: Global,
@@ -52,8 +58,8 @@ fn add_text(
     findings: &mut Findings,
     big: &mut Vec<String>,
 ) -> Result<(), AllocError>
-    ensures faults { OnOk result (findings.new ≡ findings.old ++ spec.expression_faults text.now) }
-    ensures big { OnOk result (length big.new.items ≤ length big.old.items + (if is_expression text.now then 1 else 0)) }
+    ensures faults { OnOk result (findings.new ≡ findings.old ++ spec.faults_as Regular text.now) }
+    ensures big { OnOk result (length big.new.items ≤ length big.old.items + (if is_one_as Regular text.now then 1 else 0)) }
 {
     match check(alloc, text) {
         Ok(()) => Ok(()),
@@ -66,5 +72,35 @@ fn add_text(
             Ok(())
         }
         Err(ExpressionFault::NoMemory) => Err(AllocError),
+    }
+}
+
+/// The same of a text that is wanted to be a condition on this.
+fn add_condition(
+    alloc: Global,
+    context: Context,
+    text: &str,
+    findings: &mut Findings,
+    big: &mut Vec<String>,
+) -> Result<(), AllocError>
+    ensures faults { OnOk result (findings.new ≡ findings.old ++ spec.faults_as (Condition context) text.now) }
+    ensures big { OnOk result (length big.new.items ≤ length big.old.items + (if is_one_as (Condition context) text.now then 1 else 0)) }
+{
+    match ottl_lists::check(alloc, context, text) {
+        Ok(()) => Ok(()),
+        Err(ConditionFault::NotACondition(fault)) => findings.add(
+            ConfigFault::NotAnExpression,
+            condition_text(alloc, text, fault)?,
+        ),
+        Err(ConditionFault::NotAnExpression) => findings.add(
+            ConfigFault::NotAnExpression,
+            pattern_text(alloc, text)?,
+        ),
+        Err(ConditionFault::ExpressionTooBig) => {
+            let told = big_expression_text(alloc, text)?;
+            big.push(told)?;
+            Ok(())
+        }
+        Err(ConditionFault::NoMemory) => Err(AllocError),
     }
 }

@@ -6,6 +6,7 @@ ghost use Rattle.config_findings.specs.Texts.{no_key_text, no_toml_text, place_f
 
 use config_faults::{ConfigFault, ItemKind, PolicyType, TableKind, ValueKind};
 use near_keys::{Hint, hint_of};
+use ottl_text::Fault;
 use policy_places::{FaultPlace, fault_place, key_place, order_follows};
 use policy_tree::PolicyFault;
 use std::alloc::{AllocError, Global};
@@ -126,6 +127,9 @@ pub fn value_text(
         ValueKind::OutputFault => {
             format!(in alloc; "{place}: {value} is none of discard, stop, retry")
         }
+        ValueKind::ErrorMode => {
+            format!(in alloc; "{place}: {value} is none of ignore, silent, propagate")
+        }
         ValueKind::Endpoint => {
             format!(in alloc; "{place}: {value} is not of the form http://HOST:PORT/PATH")
         }
@@ -166,7 +170,8 @@ fn type_text(wanted: ValueKind) -> &'static str {
         | ValueKind::PolicyType
         | ValueKind::Choice(_)
         | ValueKind::LogForm
-        | ValueKind::OutputFault => "a text",
+        | ValueKind::OutputFault
+        | ValueKind::ErrorMode => "a text",
         ValueKind::Percentage => "a number",
         ValueKind::Array(_) => "an array",
         ValueKind::Headers => "a table of texts",
@@ -253,7 +258,19 @@ pub fn no_expression_text(alloc: Global, text: &str) -> Result<String, AllocErro
     format!(in alloc; "policies: {text:?} is no regular expression")
 }
 
-/// What is said of a regular expression in `values` that is too big.
+/// What is said of a text in `span` or `spanevent` that is no condition.
+pub fn condition_text(alloc: Global, text: &str, fault: Fault) -> Result<String, AllocError> {
+    let column = fault.column;
+    let kind = fault.kind;
+    format!(in alloc; "policies: {text:?} is no condition: column {column}: {kind}")
+}
+
+/// What is said of a condition whose regular expression is none.
+pub fn pattern_text(alloc: Global, text: &str) -> Result<String, AllocError> {
+    format!(in alloc; "policies: {text:?}: what IsMatch takes is no regular expression")
+}
+
+/// What is said of a regular expression in `values` or in a condition that is too big.
 pub fn big_expression_text(alloc: Global, text: &str) -> Result<String, AllocError> {
     format!(in alloc; "policies: {text:?} takes more than about 1 MiB, compiled")
 }

@@ -30,5 +30,5 @@ mod value;
 pub use eval_error::EvalError;
 pub use evaluating::evaluate;
 pub use laws::{connectives_are_of_their_parts, not_goes_inside};
-pub use searching::{learn, searches_for};
+pub use searching::{put_patterns, searches_for};
 pub use subject::Subject;

@@ -5,6 +5,7 @@ ghost use Rattle.ottl_text.specs.Syntax.{term_of};
 ghost use Rattle.ottl_condition.specs.Meaning.{patterns_of};
 
 use expression::Searches;
+use otlp_types::{List, Text, TryClone};
 use ottl_text::Expression;
 use std::alloc::{AllocError, Global};
 
@@ -13,35 +14,39 @@ use std::alloc::{AllocError, Global};
 pub fn searches_for(alloc: Global, condition: &Expression) -> Result<Searches, AllocError>
     ensures { IfOk result (λ searches. are_known searches (patterns_of (term_of condition.now)) ≡ true) }
 {
+    let mut patterns = List::new(alloc);
+    put_patterns(alloc, condition, &mut patterns)?;
     let mut searches = Searches::new(alloc);
-    learn(alloc, condition, &mut searches)?;
+    for pattern in patterns.as_slice() {
+        searches.add(alloc, pattern.as_str())?;
+    }
     Ok(searches)
 }
 
-/// Puts the regular expressions of an expression last among those that the searches know. `Err` as of `searches_for`.
-pub fn learn(
+/// Puts the texts of the regular expressions of an expression last.
+pub fn put_patterns(
     alloc: Global,
     expression: &Expression,
-    searches: &mut Searches,
+    found: &mut List<Text>,
 ) -> Result<(), AllocError>
-    ensures { OnOk result (searches.new ≡ searches.old ++ patterns_of (term_of expression.now)) }
+    ensures { OnOk result (found.new ≡ found.old ++ patterns_of (term_of expression.now)) }
 {
     match expression {
-        Expression::Unary(_, of) => learn(alloc, of, searches),
+        Expression::Unary(_, of) => put_patterns(alloc, of, found),
         Expression::Binary(_, left, right) => {
-            learn(alloc, left, searches)?;
-            learn(alloc, right, searches)?;
+            put_patterns(alloc, left, found)?;
+            put_patterns(alloc, right, found)?;
             Ok(())
         }
         Expression::IsMatch(of, pattern) => {
-            learn(alloc, of, searches)?;
-            searches.add(alloc, pattern.as_str())?;
+            put_patterns(alloc, of, found)?;
+            found.push(pattern.try_clone(alloc)?)?;
             Ok(())
         }
         Expression::Substring(of, start, size) => {
-            learn(alloc, of, searches)?;
-            learn(alloc, start, searches)?;
-            learn(alloc, size, searches)?;
+            put_patterns(alloc, of, found)?;
+            put_patterns(alloc, start, found)?;
+            put_patterns(alloc, size, found)?;
             Ok(())
         }
         Expression::Literal(_) | Expression::Path(_) | Expression::IsRootSpan => Ok(()),

@@ -1,1 +1,2 @@
 mod ListRows
+pub mod Sent

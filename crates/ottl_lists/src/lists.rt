@@ -1,53 +1,29 @@
 //! Lists of conditions, of which one suffices.
-ghost use Rattle.std.specs.Prelude.{◌≡◌, true, map, IfOk};
-ghost use Rattle.expression.specs.Expressions.{are_known};
-ghost use Rattle.ottl_text.specs.Syntax.{term_of};
+ghost use Rattle.std.specs.Prelude.{◌≡◌, true};
+ghost use Rattle.ottl_text.specs.declared.expression.Context.TheVariants.{Span, SpanEvent};
 ghost use Rattle.ottl_condition.specs.Subjects.{subject_of};
+ghost use Rattle.ottl_lists.specs.Texts.{are_known};
 ghost use Rattle.ottl_lists.specs.Lists as spec;
 
-use expression::Searches;
-use otlp_types::{Arrival, Record};
-use ottl_condition::{EvalError, Subject, evaluate, learn};
-use ottl_text::Expression;
-use std::alloc::{AllocError, Global};
+use crate::conditions::Conditions;
+use otlp_types::{Arrival, Record, Text};
+use ottl_condition::{EvalError, Subject};
+use ottl_text::{Context, ErrorMode};
 
-/// What an error of a condition does (`error_mode`).
-#[derive(Clone, Copy, PartialEq, Eq)]
-pub enum ErrorMode {
-    /// The next condition is asked, and the error is told.
-    Ignore,
-    /// The next condition is asked.
-    Silent,
-    /// It is the answer.
-    Propagate,
-}
-
-/// What searches for the regular expressions of conditions. `Err` where memory was refused, or a text is no regular
-/// expression.
-pub fn searches_for_all(alloc: Global, conditions: &[Expression]) -> Result<Searches, AllocError>
-    ensures { IfOk result (λ searches. are_known searches (spec.patterns_in (map term_of conditions.now)) ≡ true) }
-{
-    let mut searches = Searches::new(alloc);
-    for condition in conditions {
-        learn(alloc, condition, &mut searches)?;
-    }
-    Ok(searches)
-}
-
-/// Whether some condition is true of a span or of an event, asked in this order, or an error that ends it. The searches know
-/// their regular expressions.
-pub fn some_holds(
-    conditions: &[Expression],
+/// Whether one of the conditions of these texts is true of a span or of an event, or an error that ends them.
+fn some_holds(
+    conditions: &mut Conditions,
     mode: ErrorMode,
+    context: Context,
+    texts: &[Text],
     subject: Subject<'_>,
-    searches: &mut Searches,
 ) -> Result<bool, EvalError>
-    requires known { are_known searches.old (spec.patterns_in (map term_of conditions.now)) ≡ true }
-    ensures meaning { result ≡ spec.some_of mode (map term_of conditions.now) (subject_of subject.entry) }
-    ensures same { searches.new ≡ searches.old }
+    requires known { are_known conditions.old context texts.now ≡ true }
+    ensures said { result ≡ spec.some_holds mode context texts.now (subject_of subject.entry) }
+    ensures same { conditions.new ≡ conditions.old }
 {
-    for condition in conditions {
-        match evaluate(condition, subject, searches) {
+    for text in texts {
+        match conditions.holds(context, text.as_str(), subject) {
             Ok(true) => return Ok(true),
             Ok(false) => {}
             Err(error) => {
@@ -60,19 +36,20 @@ pub fn some_holds(
     Ok(false)
 }
 
-/// Whether some condition is true of some event of a span, or an error that ends it.
-pub fn some_event_holds(
-    conditions: &[Expression],
+/// Whether one of them is true of some event of a span, or an error that ends them.
+fn some_event_holds(
+    conditions: &mut Conditions,
     mode: ErrorMode,
+    texts: &[Text],
     sent: &Record,
-    searches: &mut Searches,
 ) -> Result<bool, EvalError>
-    requires known { are_known searches.old (spec.patterns_in (map term_of conditions.now)) ≡ true }
-    ensures meaning { result ≡ spec.some_event_of mode (map term_of conditions.now) sent.now sent.now.span.events }
-    ensures same { searches.new ≡ searches.old }
+    requires known { are_known conditions.old SpanEvent texts.now ≡ true }
+    ensures said { result ≡ spec.some_event_holds mode texts.now sent.now sent.now.span.events }
+    ensures same { conditions.new ≡ conditions.old }
 {
     for event in sent.span.get().events.as_slice() {
-        match some_holds(conditions, mode, Subject::Event(sent, event), searches) {
+        let subject = Subject::Event(sent, event);
+        match some_holds(conditions, mode, Context::SpanEvent, texts, subject) {
             Ok(true) => return Ok(true),
             Ok(false) => {}
             Err(error) => return Err(error),
@@ -81,42 +58,49 @@ pub fn some_event_holds(
     Ok(false)
 }
 
-/// Whether some condition on spans is true of the span, or some condition on events of one of its events, or an error that
-/// ends it.
+/// Whether one of the conditions on spans is true of a span, or one of those on events of one of its events, or an error that
+/// ends them.
 fn span_meets(
-    span: &[Expression],
-    span_event: &[Expression],
+    conditions: &mut Conditions,
     mode: ErrorMode,
+    on_span: &[Text],
+    on_event: &[Text],
     sent: &Record,
-    searches: &mut Searches,
 ) -> Result<bool, EvalError>
-    requires span { are_known searches.old (spec.patterns_in (map term_of span.now)) ≡ true }
-    requires span_event { are_known searches.old (spec.patterns_in (map term_of span_event.now)) ≡ true }
-    ensures meaning { result ≡ spec.span_meets mode (map term_of span.now) (map term_of span_event.now) sent.now }
-    ensures same { searches.new ≡ searches.old }
+    requires on_span { are_known conditions.old Span on_span.now ≡ true }
+    requires on_event { are_known conditions.old SpanEvent on_event.now ≡ true }
+    ensures said { result ≡ spec.span_meets mode on_span.now on_event.now sent.now }
+    ensures same { conditions.new ≡ conditions.old }
 {
-    match some_holds(span, mode, Subject::Span(sent), searches) {
-        Ok(false) => some_event_holds(span_event, mode, sent, searches),
-        answer => answer,
+    match some_holds(
+        conditions,
+        mode,
+        Context::Span,
+        on_span,
+        Subject::Span(sent),
+    ) {
+        Ok(false) => some_event_holds(conditions, mode, on_event, sent),
+        said => said,
     }
 }
 
 /// Whether some span of a trace meets a condition on spans, or one of its events a condition on events, or an error that ends
-/// it. The spans are asked in their order, each before its events, and those before the next span.
+/// it. The spans are asked in their order, each before its events, and those before the next span. The conditions, which are
+/// among those that were read, are given by their texts. It takes no memory that can be refused.
 pub fn trace_meets(
-    span: &[Expression],
-    span_event: &[Expression],
+    conditions: &mut Conditions,
     mode: ErrorMode,
+    on_span: &[Text],
+    on_event: &[Text],
     spans: &[Arrival],
-    searches: &mut Searches,
 ) -> Result<bool, EvalError>
-    requires span { are_known searches.old (spec.patterns_in (map term_of span.now)) ≡ true }
-    requires span_event { are_known searches.old (spec.patterns_in (map term_of span_event.now)) ≡ true }
-    ensures meaning { result ≡ spec.trace_meets mode (map term_of span.now) (map term_of span_event.now) spans.now }
-    ensures same { searches.new ≡ searches.old }
+    requires on_span { are_known conditions.old Span on_span.now ≡ true }
+    requires on_event { are_known conditions.old SpanEvent on_event.now ≡ true }
+    ensures said { result ≡ spec.trace_meets mode on_span.now on_event.now spans.now }
+    ensures same { conditions.new ≡ conditions.old }
 {
     for arrival in spans {
-        match span_meets(span, span_event, mode, &arrival.rec, searches) {
+        match span_meets(conditions, mode, on_span, on_event, &arrival.rec) {
             Ok(true) => return Ok(true),
             Ok(false) => {}
             Err(error) => return Err(error),

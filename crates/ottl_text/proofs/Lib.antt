@@ -1,4 +1,4 @@
 mod Texts
 mod Numbers
 pub mod Rows
-mod GrammarRows
+pub mod GrammarRows

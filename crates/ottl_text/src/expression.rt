@@ -22,6 +22,17 @@ pub enum Context {
     SpanEvent,
 }
 
+/// What an error of a condition does (OTTL, `error_mode`).
+#[derive(Clone, Copy, PartialEq, Eq)]
+pub enum ErrorMode {
+    /// The next condition is asked, and the error is told.
+    Ignore,
+    /// The next condition is asked.
+    Silent,
+    /// It is the answer.
+    Propagate,
+}
+
 /// Where a path begins (OTTL, `contexts/ottlspan` and `contexts/ottlspanevent`, "Paths").
 #[derive(Clone, Copy, PartialEq, Eq)]
 pub enum Root {

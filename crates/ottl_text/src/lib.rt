@@ -21,7 +21,7 @@ mod reading;
 mod sorts;
 mod token;
 
-pub use expression::{Binary, Context, Expression, Key, Literal, Path, Root, Unary};
+pub use expression::{Binary, Context, ErrorMode, Expression, Key, Literal, Path, Root, Unary};
 pub use fault::{Fault, FaultKind, ParseError};
 pub use literals::{float_of, int_of};
 pub use parsing::parse;

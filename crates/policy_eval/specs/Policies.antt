@@ -1,8 +1,10 @@
 -- What policies mean on the spans of a trace (tailsamplingprocessor README, "Policies").
-use Rattle.std.specs.Prelude.{ℕ, ◌+◌, ◌-◌, ◌/◌, ◌%◌, min, max, ℤ, Bool, true, false, not, ◌&&◌, ◌||◌, if◌then◌else◌, ◌==◌, nat_lt, nat_le, List, [], ◌∷◌, ◌++◌, length, bytes_eq, int_le, Option, None}
+use Rattle.std.specs.Prelude.{ℕ, ◌+◌, ◌-◌, ◌/◌, ◌%◌, min, max, ℤ, Bool, true, false, not, ◌&&◌, ◌||◌, if◌then◌else◌, ◌==◌, nat_lt, nat_le, List, [], ◌∷◌, ◌++◌, length, bytes_eq, int_le, Option, None, Ok, Err}
 use Rattle.std.specs.List.{list_any, list_all, position_from}
 use Rattle.std.specs.Ordering.{int_eq}
 use Rattle.expression.specs.Expressions.{is_match}
+use Rattle.ottl_condition.specs.Values.{Answer as Said}
+use Rattle.ottl_lists.specs.Lists.{trace_meets}
 use Rattle.policy_eval.specs.Probabilistic.{trace_of, is_chosen}
 use Rattle.policy_eval.specs.TraceState.{has_member}
 use Rattle.policy_tree.specs.declared.policy.Leaf.{Leaf}
@@ -93,6 +95,11 @@ has_state key values spans = list_any (λ (a : Arrival). has_member key values a
 abbrev pub is_flagged : List Arrival → Bool
 is_flagged spans = list_any (λ (a : Arrival). a.rec.span.flags % 2 == 1) spans
 
+-- it is true, and no error
+abbrev pub holds_so : Said Bool → Bool
+holds_so (Ok b) = b
+holds_so (Err e) = false
+
 -- without `invert_match`
 abbrev pub plain : Bool → Answer
 plain holds = if holds then sample else not_sample
@@ -110,6 +117,7 @@ leaf_answer (leaf_is.Attribute key wanted invert) spans = if invert then inverte
 leaf_answer (leaf_is.SpanCount least most) spans = plain (is_within least most (length spans))
 leaf_answer (leaf_is.Probabilistic salt ten_thousandths) spans = plain (is_chosen salt ten_thousandths (trace_of spans))
 leaf_answer (leaf_is.TraceState key values) spans = plain (has_state key values spans)
+leaf_answer (leaf_is.OttlCondition mode on_span on_event) spans = plain (holds_so (trace_meets mode on_span on_event spans))
 leaf_answer leaf_is.TraceFlags spans = plain (is_flagged spans)
 
 -- ---- several answers

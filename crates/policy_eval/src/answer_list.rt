@@ -1,7 +1,7 @@
 //! The verdict by a list of answers.
 ghost use Rattle.std.specs.Prelude.{◌≡◌, ℕ, ◌+◌, ◌≤◌, true, drop, length};
 ghost use Rattle.policy_tree.specs.Tree.{nodes};
-ghost use Rattle.expression.specs.Expressions.{are_known};
+ghost use Rattle.policy_eval.specs.Searches.{are_known};
 ghost use Rattle.policy_tree.specs.Expressions.{expressions_of, expressions_in};
 ghost use Rattle.policy_tree.specs.Meaning.{meaning, policy_meaning};
 ghost use Rattle.policy_eval.specs.Meaning.{answer_of};
@@ -10,7 +10,7 @@ ghost use Rattle.policy_eval.specs.Judged.{judged};
 
 use crate::answer::{Answer, AnswersSeen};
 use crate::leaf::leaf_answer;
-use expression::Searches;
+use crate::searches::Searches;
 use otlp_types::Arrival;
 use policy_tree::{Policies, Policy, PolicyKind};
 use span_ids::Verdict;

@@ -1,10 +1,11 @@
 //! The attribute policies: what a span or its resource has under a key.
-ghost use Rattle.std.specs.Prelude.{◌≡◌, true};
-ghost use Rattle.expression.specs.Expressions.{are_known};
-ghost use Rattle.policy_tree.specs.Expressions.{expressions_wanted};
+ghost use Rattle.std.specs.Prelude.{◌≡◌, map, true};
+ghost use Rattle.policy_eval.specs.Searches.{are_known};
+ghost use Rattle.policy_tree.specs.declared.expressions.ExpressionKind.TheVariants.{Regular};
+ghost use Rattle.policy_tree.specs.Expressions.{of_kind, expressions_wanted};
 ghost use Rattle.policy_eval.specs.Policies.{matches, has_wanted, is_among, is_matched, is_wanted};
 
-use expression::Searches;
+use crate::searches::Searches;
 use otlp_types::{AnyValue, Arrival, KeyValue, Text};
 use policy_tree::Wanted;
 
@@ -75,7 +76,7 @@ fn is_among(values: &[Text], text: &str) -> bool
 
 /// Whether one of these expressions has a match in the text.
 fn is_matched(expressions: &[Text], text: &str, searches: &mut Searches) -> bool
-    requires known { are_known searches.old expressions.now ≡ true }
+    requires known { are_known searches.old (map (of_kind Regular) expressions.now) ≡ true }
     ensures found { result ≡ is_matched expressions.now text.now }
     ensures same { searches.new ≡ searches.old }
 {

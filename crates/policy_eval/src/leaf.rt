@@ -1,6 +1,6 @@
 //! The answers of policies that have no parts and ask no limiter.
 ghost use Rattle.std.specs.Prelude.{◌≡◌, true};
-ghost use Rattle.expression.specs.Expressions.{are_known};
+ghost use Rattle.policy_eval.specs.Searches.{are_known};
 ghost use Rattle.policy_tree.specs.Expressions.{expressions_of_leaf};
 ghost use Rattle.policy_eval.specs.Policies.{has_status, has_state, is_flagged, leaf_answer};
 ghost use Rattle.policy_eval.specs.Meaning.{answer_of};
@@ -9,8 +9,8 @@ use crate::answer::Answer;
 use crate::attribute::matches;
 use crate::latency::{is_slow, is_within};
 use crate::probabilistic::is_chosen;
+use crate::searches::Searches;
 use crate::trace_state::has_member;
-use expression::Searches;
 use otlp_types::{Arrival, Text};
 use policy_tree::Leaf;
 
@@ -46,6 +46,11 @@ pub fn leaf_answer(leaf: &Leaf, spans: &[Arrival], searches: &mut Searches) -> A
         Leaf::TraceState { key, values } => {
             Answer::plain(has_state(key.as_str(), values.as_slice(), spans))
         }
+        Leaf::OttlCondition {
+            error_mode,
+            on_span,
+            on_event,
+        } => Answer::plain(searches.meets(*error_mode, on_span, on_event, spans)),
         Leaf::TraceFlags => Answer::plain(is_flagged(spans)),
     }
 }

@@ -17,11 +17,13 @@ mod latency;
 mod laws;
 mod leaf;
 mod probabilistic;
+mod searches;
 mod searching;
 mod trace_state;
 mod verdict;
 
 pub use answer_list::{judge, verdict_given};
 pub use laws::{answers_are_by_the_node, asked_nodes_rise, decisions_keep_the_counts};
+pub use searches::Searches;
 pub use searching::searches_for;
 pub use verdict::{evaluate, evaluate_with_decider};

@@ -1,10 +1,10 @@
 //! What searches for the expressions of policies.
 ghost use Rattle.std.specs.Prelude.{◌≡◌, true, IfOk};
-ghost use Rattle.expression.specs.Expressions.{are_known};
+ghost use Rattle.policy_eval.specs.Searches.{are_known};
 ghost use Rattle.policy_tree.specs.Expressions.{expressions_in};
 ghost use Rattle.policy_tree.specs.Meaning.{meaning};
 
-use expression::Searches;
+use crate::searches::Searches;
 use policy_tree::Policies;
 use std::alloc::{AllocError, Global};
 
@@ -12,10 +12,10 @@ use std::alloc::{AllocError, Global};
 pub fn searches_for(alloc: Global, policies: &Policies) -> Result<Searches, AllocError>
     ensures { IfOk result (λ searches. are_known searches (expressions_in (meaning policies.now)) ≡ true) }
 {
-    let texts = policies.expressions(alloc)?;
+    let expressions = policies.expressions(alloc)?;
     let mut searches = Searches::new(alloc);
-    for text in texts.as_slice() {
-        searches.add(alloc, text.as_str())?;
+    for expression in expressions.as_slice() {
+        searches.add(alloc, expression)?;
     }
     Ok(searches)
 }

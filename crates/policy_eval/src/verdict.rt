@@ -1,7 +1,7 @@
 //! The walk over a tree of policies that asks limiters on its way.
 ghost use Rattle.std.specs.Prelude.{◌≡◌, ℕ, ◌+◌, ◌/◌, ◌<◌, ◌≤◌, Bool, true, length};
 ghost use Rattle.policy_tree.specs.Tree.{nodes, limits, limiters};
-ghost use Rattle.expression.specs.Expressions.{are_known};
+ghost use Rattle.policy_eval.specs.Searches.{are_known};
 ghost use Rattle.policy_tree.specs.Expressions.{expressions_of, expressions_in};
 ghost use Rattle.policy_tree.specs.Meaning.{meaning, policy_meaning};
 ghost use Rattle.policy_eval.specs.Meaning.{knows};
@@ -12,7 +12,7 @@ ghost use Rattle.policy_eval.specs.Walks.{Answers};
 use crate::answer::{Answer, AnswersSeen};
 use crate::decider::Firsts;
 use crate::leaf::leaf_answer;
-use expression::Searches;
+use crate::searches::Searches;
 use otlp_types::Arrival;
 use policy_tree::{Limit, Policies, Policy, PolicyKind};
 use rate_budget::Limiter;

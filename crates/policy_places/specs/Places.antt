@@ -68,8 +68,19 @@ abbrev pub empty_at : Option (List ℕ) → Members → Option (List ℕ)
 empty_at None settings = None
 empty_at (Some key) settings = if is_empty_array (get_member key settings) then Some key else None
 
+-- nothing stands there, or an empty array
+abbrev pub is_nothing : Option Data → Bool
+is_nothing None = true
+is_nothing (Some (array items)) = has_no_items items
+is_nothing (Some _) = false
+
+-- neither a condition on spans nor one on events stands there
+abbrev pub has_no_conditions : Members → Bool
+has_no_conditions settings = is_nothing (get_member (codes "span") settings) && is_nothing (get_member (codes "spanevent") settings)
+
 -- the key of the settings of such a policy at which an empty array stands in place of what it looks for
 abbrev pub empty_values : PolicyType → Members → Option (List ℕ)
+empty_values type_is.OttlCondition settings = if has_no_conditions settings then Some (codes "span") else None
 empty_values kind settings = empty_at (values_key kind) settings
 
 -- the whole number at a key, or its default

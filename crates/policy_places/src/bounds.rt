@@ -11,9 +11,27 @@ use toml::{Table, Value};
 pub fn empty_values(kind: PolicyType, settings: &Table) -> Option<&'static str>
     ensures { option_map (λ key. key.now) result ≡ spec.empty_values kind (table_view settings.now) }
 {
-    match values_key(kind) {
-        Some(key) if is_empty_array(member(settings, key)) => Some(key),
+    match (kind, values_key(kind)) {
+        (PolicyType::OttlCondition, _) if has_no_conditions(settings) => Some("span"),
+        (_, Some(key)) if is_empty_array(member(settings, key)) => Some(key),
         _ => None,
+    }
+}
+
+/// Whether neither a condition on spans nor one on events stands there.
+fn has_no_conditions(settings: &Table) -> bool
+    ensures { result ≡ spec.has_no_conditions (table_view settings.now) }
+{
+    is_nothing(member(settings, "span")) && is_nothing(member(settings, "spanevent"))
+}
+
+fn is_nothing(value: Option<&Value>) -> bool
+    ensures { result ≡ spec.is_nothing (option_map (λ v. view v.now) value.entry) }
+{
+    match value {
+        None => true,
+        Some(Value::Array(items)) => has_no_items(items.as_slice()),
+        _ => false,
     }
 }
 

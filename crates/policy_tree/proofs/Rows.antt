@@ -5,7 +5,8 @@ use Rattle.policy_tree.specs.declared.limit.Limit.TheVariants.{Spans}
 use Rattle.policy_tree.specs.Tree.{Policies, no_more, one_more, leaf, rate_limiting, joined, and_policy, limiters}
 use Rattle.policy_tree.specs.declared.policy.Join.{Join}
 use Rattle.policy_tree.specs.declared.policy.Join.TheVariants.{And, Not, Drop}
-use Rattle.policy_tree.specs.declared.policy.Leaf.TheVariants.{AlwaysSample, Latency, StatusCode, Attribute, SpanCount, Probabilistic, TraceState, TraceFlags}
+use Rattle.policy_tree.specs.declared.policy.Leaf.TheVariants.{AlwaysSample, Latency, StatusCode, Attribute, SpanCount, Probabilistic, TraceState, OttlCondition, TraceFlags}
+use Rattle.ottl_text.specs.declared.expression.ErrorMode.TheVariants.{Ignore}
 use Rattle.policy_tree.specs.declared.policy.Wanted.TheVariants.{StringAmong, StringMatching, NumberWithin, Boolean}
 use Rattle.policy_tree.specs.Faults.{has_crossed_bounds, has_no_values}
 
@@ -25,7 +26,7 @@ pub values : map has_no_values (StatusCode [] ∷ StatusCode (pos 2 ∷ []) ∷ 
 values = refl
 
 -- of a trace state no value is looked for, one is, and of the flags none has to be
-pub values_of_a_trace : map has_no_values (TraceState (107 ∷ []) [] ∷ TraceState [] ([] ∷ []) ∷ TraceFlags ∷ []) ≡ true ∷ false ∷ false ∷ []
+pub values_of_a_trace : map has_no_values (OttlCondition Ignore [] [] ∷ OttlCondition Ignore ([] ∷ []) [] ∷ OttlCondition Ignore [] ([] ∷ []) ∷ TraceState (107 ∷ []) [] ∷ TraceState [] ([] ∷ []) ∷ TraceFlags ∷ []) ≡ true ∷ false ∷ false ∷ true ∷ false ∷ false ∷ []
 values_of_a_trace = refl
 
 -- an `and` of a policy that always samples and a limit of 3; a limit of 4; and an `and` of an `and` of a limit of 5

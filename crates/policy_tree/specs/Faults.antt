@@ -76,6 +76,7 @@ abbrev pub has_no_values : Leaf → Bool
 has_no_values (leaf_is.StatusCode codes) = length codes == 0
 has_no_values (leaf_is.Attribute key wanted invert) = wants_none wanted
 has_no_values (leaf_is.TraceState key values) = length values == 0
+has_no_values (leaf_is.OttlCondition mode on_span on_event) = length on_span == 0 && length on_event == 0
 has_no_values _ = false
 
 -- a value is to be within bounds that leave nothing

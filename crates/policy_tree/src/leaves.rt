@@ -53,6 +53,14 @@ fn leaf_has_fault(leaf: &Leaf, fault: LeafFault) -> bool
             LeafFault::NoValues,
         ) => values.is_empty(),
         (Leaf::TraceState { values, .. }, LeafFault::NoValues) => values.is_empty(),
+        (
+            Leaf::OttlCondition {
+                on_span,
+                on_event,
+                ..
+            },
+            LeafFault::NoValues,
+        ) => on_span.is_empty() && on_event.is_empty(),
         _ => false,
     }
 }

@@ -19,6 +19,7 @@ mod policies;
 mod policy;
 mod shape;
 
+pub use expressions::{ExpressionKind, PolicyExpression};
 pub use fault::PolicyFault;
 pub use laws::limiters_are_of_the_walk;
 pub use limit::Limit;

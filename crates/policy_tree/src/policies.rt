@@ -6,14 +6,14 @@ ghost use Rattle.policy_tree.specs.Meaning.{meaning, policy_meaning};
 ghost use Rattle.policy_tree.specs.Expressions.{expressions_in};
 ghost use Rattle.policy_tree.specs.Faults.{fault_of_policies};
 
-use crate::expressions::put_expressions_in;
+use crate::expressions::{PolicyExpression, put_expressions_in};
 use crate::fault::PolicyFault;
 use crate::leaves::{LeafFault, some_has_fault};
 use crate::limiter_node::LimiterNode;
 use crate::names::has_doubled_names;
 use crate::policy::{Policy, PolicyKind};
 use crate::shape::{count_in, depth_in, has_empty_list};
-use otlp_types::{List, Text, TryClone};
+use otlp_types::{List, TryClone};
 use std::alloc::{AllocError, Global};
 use std::marker::Model;
 
@@ -80,8 +80,8 @@ impl Policies {
         Ok(found)
     }
 
-    /// The texts of the regular expressions in the policies, each as often as it stands there.
-    pub fn expressions(&self, alloc: Global) -> Result<List<Text>, AllocError>
+    /// The regular expressions and the conditions in the policies, each as often as it stands there.
+    pub fn expressions(&self, alloc: Global) -> Result<List<PolicyExpression>, AllocError>
         ensures { IfOk result (λ found. found ≡ expressions_in (meaning self.now)) }
     {
         let mut found = List::new(alloc);

@@ -3,6 +3,7 @@ ghost use Rattle.std.specs.Prelude.{◌≡◌, IfOk};
 
 use crate::limit::Limit;
 use otlp_types::{List, Text, TryClone};
+use ottl_text::ErrorMode;
 use std::alloc::{AllocError, Global};
 
 /// A policy by its name (tailsamplingprocessor README, `policies`).
@@ -81,6 +82,13 @@ pub enum Leaf {
     TraceState {
         key: Text,
         values: List<Text>,
+    },
+    /// A trace with a span that one of the conditions on spans is true of, or with an event of a span that one of those on
+    /// events is true of (OTTL; `ottl_condition`: `error_mode`, `span`, `spanevent`).
+    OttlCondition {
+        error_mode: ErrorMode,
+        on_span: List<Text>,
+        on_event: List<Text>,
     },
     /// A trace with a span that was flagged as sampled: the lowest bit of its flags is set (`trace.proto` v1,
     /// `Span.flags`; `trace_flags`).
@@ -194,6 +202,15 @@ impl TryClone for Leaf {
             Leaf::TraceState { key, values } => Ok(Leaf::TraceState {
                 key: key.try_clone(alloc)?,
                 values: values.try_clone(alloc)?,
+            }),
+            Leaf::OttlCondition {
+                error_mode,
+                on_span,
+                on_event,
+            } => Ok(Leaf::OttlCondition {
+                error_mode: *error_mode,
+                on_span: on_span.try_clone(alloc)?,
+                on_event: on_event.try_clone(alloc)?,
             }),
             Leaf::TraceFlags => Ok(Leaf::TraceFlags),
         }

@@ -2,7 +2,7 @@
 -- For each call above that starts threads.
 use denote.Param.Send.{IsSend, sendable}
 use Rattle.decision_cache.proofs.cache.DecisionCache.TheSendSync as cache
-use Rattle.expression.proofs.Sent.{searches_send}
+use Rattle.policy_eval.proofs.Sent.{searches_send}
 use Rattle.policy_tree.proofs.Sent.{policies_send}
 use Rattle.shard_core.specs.contracts.shard.Shard as shard
 use Rattle.std.proofs.Crossing.{crosses}

@@ -1,6 +1,6 @@
 //! What looking back over a journal finds, kept so that questions about it take no memory that can be refused.
 ghost use Rattle.std.specs.Prelude.{◌≡◌, true, reverse, is_some, IfOk};
-ghost use Rattle.expression.specs.Expressions.{are_known};
+ghost use Rattle.policy_eval.specs.Searches.{are_known};
 ghost use Rattle.policy_tree.specs.Expressions.{expressions_in};
 ghost use Rattle.policy_tree.specs.Meaning.{meaning};
 ghost use Rattle.journal_theory.specs.Journal.{Journal};
@@ -16,8 +16,8 @@ use crate::noted::Notes;
 use crate::noting::notes_of;
 use crate::settings::Settings;
 use crate::verdicts::judge_spans;
-use expression::Searches;
 use otlp_types::{Arrival, Ids, List};
+use policy_eval::Searches;
 use std::alloc::{AllocError, Global};
 use std::marker::Model;
 

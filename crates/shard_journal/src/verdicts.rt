@@ -1,6 +1,6 @@
 //! The verdict on the spans of a trace, which isn't sampled where it is too big.
 ghost use Rattle.std.specs.Prelude.{◌≡◌, true};
-ghost use Rattle.expression.specs.Expressions.{are_known};
+ghost use Rattle.policy_eval.specs.Searches.{are_known};
 ghost use Rattle.policy_tree.specs.Expressions.{expressions_in};
 ghost use Rattle.policy_tree.specs.Meaning.{meaning};
 ghost use Rattle.policy_eval.specs.Given.{verdict_given};
@@ -10,9 +10,8 @@ ghost use Rattle.journal_theory.specs.Journal.{policies_for};
 ghost use Rattle.shard_journal.specs.Settings.{settings_of};
 
 use crate::settings::Settings;
-use expression::Searches;
 use otlp_types::Arrival;
-use policy_eval::{judge, verdict_given};
+use policy_eval::{Searches, judge, verdict_given};
 use span_ids::Verdict;
 use span_size::size_of;
 

@@ -2,7 +2,7 @@
 ghost use Rattle.std.specs.Prelude.{◌≡◌, ◌++◌, ◌∷◌, [], Some, ◌+◌, ◌<◌, ◌≤◌, ◌==◌, ◌^◌, length, vec_capacity, drop, not, slice_index_or, IfOk, IfSome, OnOk, OnErr, is_some, reverse, IsTrue, true, false, if◌then◌else◌};
 ghost use Rattle.std.specs.List.{remove, list_any};
 ghost use Rattle.otlp_types.specs.declared.arrival.Arrival.{Arrival};
-ghost use Rattle.expression.specs.Expressions.{are_known};
+ghost use Rattle.policy_eval.specs.Searches.{are_known};
 ghost use Rattle.policy_tree.specs.Expressions.{expressions_in};
 ghost use Rattle.policy_tree.specs.Meaning.{meaning};
 ghost use Rattle.journal_theory.specs.Journal.{has_ended, answered};
@@ -14,8 +14,8 @@ ghost use Rattle.world_theory.specs.Step.{is_empty};
 ghost use Rattle.span_world.specs.Answers.{may_take, entry_of_first, next_decision, is_span, queue_after};
 
 use crate::lane::CoreLane;
-use expression::Searches;
 use otlp_types::{Arrival, Item, List, TryClone};
+use policy_eval::Searches;
 use shard_journal::{
     DroppedSpan, Effect, Entry, LookBack, Settings, decision_at, effect_of_taking, has_ended,
 };

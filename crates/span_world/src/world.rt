@@ -8,9 +8,8 @@ ghost use Rattle.span_world.specs.Core.{config_of, with_senders};
 use crate::config::CoreConfig;
 use crate::lane::CoreLane;
 use crate::shard::CoreShard;
-use expression::Searches;
 use otlp_types::{Arrival, List};
-use policy_eval::searches_for;
+use policy_eval::{Searches, searches_for};
 use shard_journal::{DroppedSpan, LookBack, Settings};
 use std::alloc::{AllocError, Global};
 use std::collections::VecDeque;
@@ -39,7 +38,7 @@ pub struct World {
 
 impl Model for World {
     ghost use Rattle.std.specs.Prelude.{◌≡◌, ◌+◌, true, length};
-    ghost use Rattle.expression.specs.Expressions.{are_known};
+    ghost use Rattle.policy_eval.specs.Searches.{are_known};
     ghost use Rattle.policy_tree.specs.Expressions.{expressions_in};
     ghost use Rattle.policy_tree.specs.Meaning.{meaning};
     ghost use Rattle.shard_journal.specs.Settings.{settings_of};

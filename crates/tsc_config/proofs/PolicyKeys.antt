@@ -16,7 +16,7 @@ use Rattle.policy_tree.specs.declared.policy.Leaf.{Leaf}
 use Rattle.policy_tree.specs.declared.policy.Leaf.TheVariants as leaf_is
 use Rattle.policy_tree.specs.declared.policy.PolicyKind.TheViews.{out-PolicyKind, roll-PolicyKind, out-roll-PolicyKind}
 use Rattle.policy_tree.specs.declared.policy.Wanted.{Wanted}
-use Rattle.tsc_config.proofs.SettingKeys.{type_is_named, text_keys, natural_keys, two_naturals, whole_keys, truth_keys, required_truth, salt_keys, percentage_keys, texts_keys, codes_keys, wanted_keys, bucket_keys}
+use Rattle.tsc_config.proofs.SettingKeys.{type_is_named, text_keys, natural_keys, two_naturals, whole_keys, truth_keys, required_truth, salt_keys, percentage_keys, texts_keys, optional_texts, mode_keys, codes_keys, wanted_keys, bucket_keys}
 use Rattle.tsc_config.proofs.Shares.{turned, unshared_are}
 use Rattle.tsc_config.proofs.Settings.{neither, switched, table_parts, read_as}
 use Rattle.policy_tree.specs.declared.policy.Join.{Join}
@@ -24,7 +24,7 @@ use Rattle.policy_tree.specs.declared.policy.Join.TheVariants as join_is
 use Rattle.config_faults.specs.PolicyTypes.{type_name}
 use Rattle.config_faults.specs.Keys.{type_named, type_found, type_at, join_type, join_name, sub_key, join_of, join_at}
 use Rattle.config_faults.specs.Composites.{is_ordered}
-use Rattle.config_faults.specs.Faults.{optional, required, order_fault, allocation_fault, unknown_fault, natural_fault, text_fault, named_fault, array_fault, type_fault, percentage_fault, truth_fault, whole_fault, code_fault, rows_fault, settings_fault, settings_at_fault, typed_fault_where, policy_table_fault, policy_fault, policy_items_fault, policies_fault, typed_fault, parts_fault, parts_settings_fault, sub_policies_fault, sub_value_fault, table_fault, least}
+use Rattle.config_faults.specs.Faults.{optional, required, order_fault, allocation_fault, unknown_fault, natural_fault, text_fault, error_mode_fault, named_fault, array_fault, type_fault, percentage_fault, truth_fault, whole_fault, code_fault, rows_fault, settings_fault, settings_at_fault, typed_fault_where, policy_table_fault, policy_fault, policy_items_fault, policies_fault, typed_fault, parts_fault, parts_settings_fault, sub_policies_fault, sub_value_fault, table_fault, least}
 use Rattle.tsc_config.specs.Values.{found_before, natural_of, items_at, composite_of, truth_of, attribute, leaf_in, kind_in, always, kind_by, kind_typed, policy_of, item_policies, policies_of, parts_policies, parts_settings, sub_policies, sub_value, policy_value, config_of}
 use Rattle.tsc_config.specs.PolicyKeys.{IsText, IsComposite, unshared, count_items, IsTyped, IsWanted, IsLeaf, IsLayer, IsKind, IsPolicy, ArePartsAt, items_of, part_items, settings_items, nested_items, value_at, parts_in, parts_of, parts_at, policy_at, HasPolicies, HasMatched, ReadsPolicies}
 use Rattle.config_faults.specs.declared.fault.ConfigFault.{ConfigFault}
@@ -269,6 +269,16 @@ kind_keys type_is.TraceState members named e = by_settings type_is.TraceState me
     (λ settings typed f.
     let n = two (required text_fault (get_member (codes "key") settings)) (required (array_fault text_fault) (get_member (codes "values") settings)) f in
     is_leaf members _ (settings, typed, text_keys (get_member (codes "key") settings) n.0, texts_keys (get_member (codes "values") settings) n.1)) named e
+kind_keys type_is.OttlCondition members named e = by_settings type_is.OttlCondition members
+    (λ settings typed f.
+    let n = three (optional error_mode_fault (get_member (codes "error_mode") settings)) (optional (array_fault text_fault) (get_member (codes "span") settings)) (optional (array_fault text_fault) (get_member (codes "spanevent") settings)) f in
+    is_leaf members _ (
+      settings,
+      typed,
+      mode_keys settings (get_member (codes "error_mode") settings) refl n.0,
+      optional_texts settings (codes "span") (get_member (codes "span") settings) refl n.1.0,
+      optional_texts settings (codes "spanevent") (get_member (codes "spanevent") settings) refl n.1.1,
+    )) named e
 kind_keys type_is.TraceFlags members named e = is_leaf members leaf_is.TraceFlags named
 kind_keys type_is.RateLimiting members named e = by_settings type_is.RateLimiting members
     (λ settings typed f. is_layer members _ (PolicyKind-F.Limiting (Spans _)) (rolls-Limiting _)

@@ -1,6 +1,6 @@
 -- What stands at a key without a fault is what the key's value is read from.
 -- For `policies_are_of_their_keys`.
-use Rattle.std.proofs.Common.{◌≡◌, ℕ, ◌≤◌, ℤ, pos, negsuc, Bool, true, false, ◌⊎◌, inl, inr, refl, ap, sym, subst, arith, codes, List, [], ◌∷◌, Option, None, Some, if◌then◌else◌, int_le, nat_le, min, ◌*◌, ◌&&◌}
+use Rattle.std.proofs.Common.{◌≡◌, ℕ, ◌≤◌, ℤ, pos, negsuc, Bool, true, false, ◌⊎◌, inl, inr, refl, ap, sym, subst, ◌∙◌, ◌||◌, arith, codes, List, [], ◌∷◌, Option, None, Some, if◌then◌else◌, int_le, nat_le, min, ◌*◌, ◌&&◌}
 use Rattle.std.proofs.lemmas.Bool.Decides.{nat_tests}
 use Rattle.std.proofs.lemmas.Slice.Eq.{bytes_eq-Decides}
 use Rattle.std.specs.Option.{unwrap_or}
@@ -11,9 +11,10 @@ use Rattle.config_faults.specs.Percentages.{nearest_count, over_ten_thousand, te
 use Rattle.tsc_config.proofs.Settings.{neither, natural, numbered}
 use Rattle.config_faults.specs.PolicyTypes.{type_name, all_types}
 use Rattle.config_faults.specs.Keys.{type_among, type_named, code_named, code_of}
-use Rattle.config_faults.specs.Faults.{optional, required, natural_fault, text_fault, named_fault, items_fault, array_fault, code_fault, percentage_fault, truth_fault, whole_fault, least}
-use Rattle.tsc_config.specs.Values.{found_before, natural_of, codes_of, item_codes, texts_of, item_texts, text_of, truth_of, whole_of, texts_wanted, salt_by, percentage_at, number_or}
-use Rattle.tsc_config.specs.PolicyKeys.{AreTexts, IsWanted, IsCode, AreCodes, IsSaltAt, IsPercentage, IsNatural, IsNaturalOrZero}
+use Rattle.config_faults.specs.Faults.{optional, required, natural_fault, text_fault, named_fault, items_fault, array_fault, is_error_mode, error_mode_fault, code_fault, percentage_fault, truth_fault, whole_fault, least}
+use Rattle.tsc_config.specs.Values.{found_before, natural_of, codes_of, item_codes, texts_of, item_texts, text_of, truth_of, whole_of, texts_wanted, error_mode_of, salt_by, percentage_at, number_or}
+use Rattle.ottl_text.specs.declared.expression.ErrorMode.TheVariants as mode_is
+use Rattle.tsc_config.specs.PolicyKeys.{AreTexts, AreTextsAt, IsErrorModeAt, IsWanted, IsCode, AreCodes, IsSaltAt, IsPercentage, IsNatural, IsNaturalOrZero}
 use Rattle.tsc_config.specs.Settings.{IsNumberAt}
 use Rattle.config_faults.specs.declared.fault.ConfigFault.{ConfigFault}
 use Rattle.config_faults.specs.declared.fault.ConfigFault.TheVariants.{OutOfRange}
@@ -121,6 +122,28 @@ array_keys : (f : Data → Option ConfigFault) (at : Option Data) → required (
 array_keys f (Some (array items)) e = (items, refl, e)
 array_keys f None e = cc
 array_keys f (Some _) e = cc
+
+pub optional_texts : (settings : Members) (key : List ℕ) (at : Option Data) → get_member key settings ≡ at → optional (array_fault text_fault) at ≡ None → AreTextsAt settings key (texts_of at)
+optional_texts settings key None a e = inl (a, refl)
+optional_texts settings key (Some (array items)) a e = inr (items, a, are_texts items e)
+optional_texts settings key (Some _) a e = absurd (cc e)
+
+first_mode : (a b : Bool) → (a || b) ≡ true → b ≡ false → a ≡ true
+first_mode true b e n = refl
+first_mode false b e n = let wrong : true ≡ false = sym e ∙ n in cc
+
+pub mode_keys : (settings : Members) (at : Option Data) → get_member (codes "error_mode") settings ≡ at → optional error_mode_fault at ≡ None → IsErrorModeAt settings (error_mode_of at)
+mode_keys settings None a e = inl (a, refl)
+mode_keys settings (Some (string bytes)) a f = of (bytes_eq bytes (codes "silent")) (bytes_eq bytes (codes "propagate")) refl refl
+  where
+    of : (s r : Bool) → bytes_eq bytes (codes "silent") ≡ s → bytes_eq bytes (codes "propagate") ≡ r → IsErrorModeAt settings (if s then mode_is.Silent else if r then mode_is.Propagate else mode_is.Ignore)
+    of true r t u = let same : bytes ≡ codes "silent" = (bytes_eq-Decides bytes (codes "silent")).0 t in inr (inr (inl (rw (← same) a, refl)))
+    of false true t u = let same : bytes ≡ codes "propagate" = (bytes_eq-Decides bytes (codes "propagate")).0 u in inr (inr (inr (rw (← same) a, refl)))
+    of false false t u =
+        let ignored : bytes_eq bytes (codes "ignore") ≡ true = first_mode _ _ (allowed (is_error_mode bytes) f) (ap (λ b. b || bytes_eq bytes (codes "propagate")) t ∙ u) in
+        let same : bytes ≡ codes "ignore" = (bytes_eq-Decides bytes (codes "ignore")).0 ignored in
+        inr (inl (rw (← same) a, refl))
+mode_keys settings (Some _) a e = absurd (cc e)
 
 pub texts_keys : (at : Option Data) → required (array_fault text_fault) at ≡ None → (items : Items) × (at ≡ Some (array items)) × AreTexts items (texts_of at)
 texts_keys at e = let a = array_keys text_fault at e in

@@ -6,6 +6,7 @@ use Rattle.std.specs.Result.{result_err}
 use Rattle.toml.specs.Data.{Members}
 use Rattle.toml.specs.Parse.{parse_document}
 use Rattle.policy_tree.specs.Faults.{fault_of_policies}
+use Rattle.policy_tree.specs.declared.expressions.PolicyExpression.{PolicyExpression}
 use Rattle.policy_tree.specs.declared.fault.PolicyFault.{PolicyFault}
 use Rattle.config_faults.specs.Faults.{config_fault_number, table_fault}
 use Rattle.tsc_config.specs.FaultSets.{IsLeastOf, HasFault, SomeIsNone, DocumentHas, TextHas}
@@ -19,18 +20,18 @@ use Rattle.config_faults.specs.declared.fault.ConfigFault.{ConfigFault}
 use Rattle.config_faults.specs.declared.fault.ConfigFault.TheVariants.{NotToml, TooFewTraces, Policy, NotAnExpression}
 
 -- the faults of a configuration beside those of its table
-abbrev Beside : (few : Type 0) → Option PolicyFault → (texts : List (List ℕ)) → ConfigFault → Type 0
+abbrev Beside : (few : Type 0) → Option PolicyFault → (texts : List PolicyExpression) → ConfigFault → Type 0
 Beside few found texts fault =
     ((fault ≡ TooFewTraces) × few)
     ⊎ (((of_policies : PolicyFault) × (found ≡ Some of_policies) × (fault ≡ Policy of_policies)) ⊎ ((fault ≡ NotAnExpression) × (found ≡ None) × SomeIsNone texts))
 
-beside_number : (few : Type 0) (found : Option PolicyFault) (texts : List (List ℕ)) (fault : ConfigFault) → Beside few found texts fault → 6 ≤ config_fault_number fault
+beside_number : (few : Type 0) (found : Option PolicyFault) (texts : List PolicyExpression) (fault : ConfigFault) → Beside few found texts fault → 6 ≤ config_fault_number fault
 beside_number few found texts fault (inl (e, h)) = rw e (omega arith)
 beside_number few found texts fault (inr (inl (p, g, e))) = rw e (omega arith)
 beside_number few found texts fault (inr (inr (e, g, h))) = rw e (omega arith)
 
 -- of policies without a fault of their own
-expressions_least : (few : Type 0) (texts : List (List ℕ)) (r : Bool) (config : Config) → some_is_none texts ≡ r → (few → ⊥)
+expressions_least : (few : Type 0) (texts : List PolicyExpression) (r : Bool) (config : Config) → some_is_none texts ≡ r → (few → ⊥)
     → IsLeastOf (Beside few None texts) (result_err (if r then Err NotAnExpression else Ok config))
 expressions_least few texts true config e many = record { is_one = λ fault f. inr (inr (cc, refl, some_is texts e)); is_least = no_lesser }
   where

@@ -4,7 +4,7 @@ use Rattle.std.specs.List.{Contains}
 use Rattle.std.specs.Str.{bytes_eq}
 use Rattle.toml.specs.Data.{Data, array, table, Items, no_items, item, Members, no_members, member, get_member}
 use Rattle.toml.specs.Parse.{parse_document}
-use Rattle.expression.specs.Expressions.{is_expression}
+use Rattle.policy_tree.specs.declared.expressions.PolicyExpression.{PolicyExpression}
 use Rattle.policy_tree.specs.Faults.{fault_of_policies}
 use Rattle.policy_tree.specs.declared.fault.PolicyFault.{PolicyFault}
 use Rattle.policy_tree.specs.declared.policy.Join.{Join}
@@ -16,7 +16,7 @@ use Rattle.config_faults.specs.Faults.{config_fault_number, required, unknown_fa
 use Rattle.config_faults.specs.Setting.{Setting}
 use Rattle.config_faults.specs.declared.settings.ValueKind.{ValueKind}
 use Rattle.config_faults.specs.declared.settings.ValueKind.TheVariants as value_is
-use Rattle.tsc_config.specs.Reading.{expressions_among}
+use Rattle.tsc_config.specs.Reading.{is_one, expressions_among}
 use Rattle.tsc_config.specs.Values.{config_of}
 use Rattle.tsc_config.specs.declared.config.Config.{Config}
 use Rattle.config_faults.specs.declared.fault.ConfigFault.{ConfigFault}
@@ -164,9 +164,9 @@ HasFault members fault =
     ⊎ (OptionalHas ExportHas (get_member (codes "export") members) fault
     ⊎ RequiredHas PoliciesHave (get_member (codes "policies") members) fault)))
 
--- some text that is wanted to be a regular expression is none
-abbrev pub SomeIsNone : List (List ℕ) → Type 0
-SomeIsNone texts = (text : List ℕ) × Contains texts text × (is_expression text ≡ false)
+-- some text that is wanted to be a regular expression or a condition is none
+abbrev pub SomeIsNone : List PolicyExpression → Type 0
+SomeIsNone expressions = (e : PolicyExpression) × Contains expressions e × (is_one e ≡ false)
 
 -- the text of a configuration with this table, if it is TOML, has this fault. Expressions are those of policies without
 -- a fault of their own

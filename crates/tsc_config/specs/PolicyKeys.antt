@@ -5,6 +5,8 @@ use Rattle.std.specs.Float.{Float}
 use lib.Ieee.{eq}
 use Rattle.toml.specs.Data.{Data, string, integer, float, boolean, array, table, Items, no_items, item, Members, get_member, get_item}
 use Rattle.toml.specs.Parse.{parse_document}
+use Rattle.ottl_text.specs.declared.expression.ErrorMode.{ErrorMode}
+use Rattle.ottl_text.specs.declared.expression.ErrorMode.TheVariants as mode_is
 use Rattle.policy_tree.specs.declared.limit.Limit.TheVariants.{Spans, Bytes}
 use Rattle.policy_tree.specs.declared.policy.Policy.{Policy}
 use Rattle.policy_tree.specs.declared.policy.PolicyKind.{PolicyKind, out-PolicyKind}
@@ -66,6 +68,20 @@ abbrev pub AreTexts : Items → List (List ℕ) → Type 0
 AreTexts no_items texts = texts ≡ []
 AreTexts (item value rest) [] = ⊥
 AreTexts (item value rest) (text ∷ texts) = (value ≡ string text) × AreTexts rest texts
+
+-- the texts of the array at a key that may be missing, else none
+abbrev pub AreTextsAt : Members → (key : List ℕ) → List (List ℕ) → Type 0
+AreTextsAt members key texts =
+    ((get_member key members ≡ None) × (texts ≡ []))
+    ⊎ ((items : Items) × (get_member key members ≡ Some (array items)) × AreTexts items texts)
+
+-- what an error of a condition does: the next one is asked, where its key doesn't stand there; else what the text there names
+abbrev pub IsErrorModeAt : Members → ErrorMode → Type 0
+IsErrorModeAt members mode =
+    ((get_member (codes "error_mode") members ≡ None) × (mode ≡ mode_is.Ignore))
+    ⊎ (((get_member (codes "error_mode") members ≡ Some (string (codes "ignore"))) × (mode ≡ mode_is.Ignore))
+    ⊎ (((get_member (codes "error_mode") members ≡ Some (string (codes "silent"))) × (mode ≡ mode_is.Silent))
+    ⊎ ((get_member (codes "error_mode") members ≡ Some (string (codes "propagate"))) × (mode ≡ mode_is.Propagate))))
 
 -- the status code that a text names (trace.proto v1, Status.StatusCode)
 abbrev pub IsCode : Data → ℤ → Type 0
@@ -134,6 +150,9 @@ IsLeaf members (leaf_is.Probabilistic salt ten_thousandths) =
 IsLeaf members (leaf_is.TraceState key values) =
     (settings : Members) × IsTyped members (codes "trace_state") settings × IsText settings (codes "key") key
     × ((items : Items) × (get_member (codes "values") settings ≡ Some (array items)) × AreTexts items values)
+IsLeaf members (leaf_is.OttlCondition mode on_span on_event) =
+    (settings : Members) × IsTyped members (codes "ottl_condition") settings × IsErrorModeAt settings mode
+    × AreTextsAt settings (codes "span") on_span × AreTextsAt settings (codes "spanevent") on_event
 IsLeaf members leaf_is.TraceFlags = IsText members (codes "type") (codes "trace_flags")
 
 -- the policies that are joined are as many as the items of an array, and of a `not` there is one

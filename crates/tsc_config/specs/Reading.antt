@@ -4,6 +4,10 @@ use Rattle.std.specs.List.{list_any}
 use Rattle.toml.specs.Data.{Members}
 use Rattle.toml.specs.Parse.{parse_document}
 use Rattle.expression.specs.Expressions.{is_expression}
+use Rattle.ottl_lists.specs.Texts.{is_condition}
+use Rattle.policy_tree.specs.declared.expressions.ExpressionKind.{ExpressionKind}
+use Rattle.policy_tree.specs.declared.expressions.ExpressionKind.TheVariants.{Regular, Condition}
+use Rattle.policy_tree.specs.declared.expressions.PolicyExpression.{PolicyExpression}
 use Rattle.policy_tree.specs.Expressions.{expressions_in}
 use Rattle.policy_tree.specs.Faults.{fault_of_policies}
 use Rattle.policy_tree.specs.Meaning.{meaning}
@@ -15,13 +19,21 @@ use Rattle.tsc_config.specs.declared.config.Config.{Config}
 use Rattle.config_faults.specs.declared.fault.ConfigFault.{ConfigFault}
 use Rattle.config_faults.specs.declared.fault.ConfigFault.TheVariants as fault_is
 
--- the texts of the regular expressions in policies
-abbrev pub expressions_among : List Policy → List (List ℕ)
+-- the regular expressions and the conditions in policies
+abbrev pub expressions_among : List Policy → List PolicyExpression
 expressions_among policies = expressions_in (meaning policies)
 
--- one of these texts is no expression
-abbrev pub some_is_none : List (List ℕ) → Bool
-some_is_none texts = list_any (λ text. not (is_expression text)) texts
+-- the text is what it is to be: a regular expression, or a condition whose regular expressions are ones
+abbrev pub is_one_as : ExpressionKind → (text : List ℕ) → Bool
+is_one_as Regular text = is_expression text
+is_one_as (Condition context) text = is_condition context text
+
+abbrev pub is_one : PolicyExpression → Bool
+is_one e = is_one_as e.kind e.text
+
+-- one of these is none
+abbrev pub some_is_none : List PolicyExpression → Bool
+some_is_none expressions = list_any (λ e. not (is_one e)) expressions
 
 -- the configuration where its policies have no fault, and their expressions are ones
 abbrev pub reading_where : Option PolicyFault → Config → Result Config ConfigFault

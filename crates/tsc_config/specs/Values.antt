@@ -14,6 +14,8 @@ use Rattle.policy_tree.specs.declared.policy.Leaf.{Leaf}
 use Rattle.policy_tree.specs.declared.policy.Leaf.TheVariants as leaf_is
 use Rattle.policy_tree.specs.declared.policy.Wanted.{Wanted}
 use Rattle.policy_tree.specs.declared.policy.Wanted.TheVariants.{StringAmong, StringMatching, NumberWithin, Boolean}
+use Rattle.ottl_text.specs.declared.expression.ErrorMode.{ErrorMode}
+use Rattle.ottl_text.specs.declared.expression.ErrorMode.TheVariants as mode_is
 use Rattle.config_faults.specs.Composites.{is_text}
 use Rattle.tsc_config.specs.HeaderFields.{headers_of}
 use Rattle.config_faults.specs.Percentages.{percentage_of}
@@ -184,6 +186,15 @@ texts_wanted true values = StringMatching values
 abbrev pub text_wanted : Members → Wanted
 text_wanted members = texts_wanted (truth_of (get_member (codes "enabled_regex_matching") members)) (texts_of (get_member (codes "values") members))
 
+-- what an error of a condition does, as a text names it
+abbrev pub error_mode_named : (text : List ℕ) → ErrorMode
+error_mode_named text = if bytes_eq text (codes "silent") then mode_is.Silent else if bytes_eq text (codes "propagate") then mode_is.Propagate else mode_is.Ignore
+
+-- the same by what stands at its key
+abbrev pub error_mode_of : Option Data → ErrorMode
+error_mode_of (Some (string text)) = error_mode_named text
+error_mode_of _ = mode_is.Ignore
+
 -- the bounds of a wanted number
 abbrev pub number_wanted : Members → Wanted
 number_wanted members = NumberWithin (whole_of (negsuc 9223372036854775807) (get_member (codes "min_value") members)) (whole_of (pos 9223372036854775807) (get_member (codes "max_value") members))
@@ -198,6 +209,7 @@ leaf_in type_is.BooleanAttribute members = attribute members (Boolean (truth_of 
 leaf_in type_is.SpanCount members = leaf_is.SpanCount (natural_of (get_member (codes "min_spans") members)) (natural_of (get_member (codes "max_spans") members))
 leaf_in type_is.Probabilistic members = leaf_is.Probabilistic (salt_by (text_of (get_member (codes "hash_salt") members))) (percentage_at (get_member (codes "sampling_percentage") members))
 leaf_in type_is.TraceState members = leaf_is.TraceState (text_of (get_member (codes "key") members)) (texts_of (get_member (codes "values") members))
+leaf_in type_is.OttlCondition members = leaf_is.OttlCondition (error_mode_of (get_member (codes "error_mode") members)) (texts_of (get_member (codes "span") members)) (texts_of (get_member (codes "spanevent") members))
 leaf_in _ _ = leaf_is.AlwaysSample
 
 -- the number at a key, at least 0, or its default

@@ -7,6 +7,7 @@ ghost use Rattle.tsc_config.specs.Values as spec;
 
 use config_faults::{NumberKey, PolicyType, code_of, member, percentage_of};
 use otlp_types::{List, Text};
+use ottl_text::ErrorMode;
 use policy_tree::{Leaf, Limit, PolicyKind, Wanted};
 use std::alloc::{AllocError, Global};
 use toml::{Table, Value};
@@ -68,6 +69,11 @@ fn leaf_in(alloc: Global, kind: PolicyType, settings: &Table) -> Result<Leaf, Al
             key: text_at(alloc, settings, "key")?,
             values: item_texts(alloc, items_at(settings, "values"))?,
         }),
+        PolicyType::OttlCondition => Ok(Leaf::OttlCondition {
+            error_mode: error_mode_at(settings),
+            on_span: item_texts(alloc, items_at(settings, "span"))?,
+            on_event: item_texts(alloc, items_at(settings, "spanevent"))?,
+        }),
         PolicyType::AlwaysSample
         | PolicyType::TraceFlags
         | PolicyType::RateLimiting
@@ -100,6 +106,20 @@ fn text_wanted(alloc: Global, settings: &Table) -> Result<Wanted, AllocError>
         Ok(Wanted::StringMatching(values))
     } else {
         Ok(Wanted::StringAmong(values))
+    }
+}
+
+/// What an error of a condition does: where it isn't told, the next condition is asked.
+fn error_mode_at(settings: &Table) -> ErrorMode
+    ensures { result ≡ spec.error_mode_of (get_member (codes "error_mode") (table_view settings.now)) }
+{
+    match member(settings, "error_mode") {
+        Some(Value::String(text)) => match text.as_str() {
+            "silent" => ErrorMode::Silent,
+            "propagate" => ErrorMode::Propagate,
+            _ => ErrorMode::Ignore,
+        },
+        _ => ErrorMode::Ignore,
     }
 }
 

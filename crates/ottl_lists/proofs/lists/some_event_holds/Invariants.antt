@@ -1,9 +1,8 @@
-use Rattle.std.proofs.Common.{◌≡◌, drop, map}
-use Rattle.ottl_text.specs.Syntax.{term_of}
-use Rattle.ottl_lists.specs.Lists.{some_event_of}
+use Rattle.std.proofs.Common.{◌≡◌, drop}
+use Rattle.ottl_lists.specs.Lists.{some_event_holds}
 use Rattle.ottl_lists.proofs.lists.some_event_holds.Given as goal
 
 abbrev pub invariant-loop-event : goal.invariant-loop-event
 invariant-loop-event l =
-    (l.searches ≡ l.fn.searches)
-    × (some_event_of l.mode (map term_of l.conditions) l.sent (drop l.event-index l.event-items) ≡ some_event_of l.mode (map term_of l.conditions) l.sent l.event-items)
+    (l.conditions ≡ l.fn.conditions)
+    × (some_event_holds l.mode l.texts l.sent (drop l.event-index l.event-items) ≡ some_event_holds l.mode l.texts l.sent l.event-items)

@@ -1,12 +1,11 @@
-use Rattle.std.proofs.Common.{◌≡◌, drop, map, true}
-use Rattle.expression.specs.Expressions.{are_known}
-use Rattle.ottl_text.specs.Syntax.{term_of}
+use Rattle.std.proofs.Common.{◌≡◌, drop, true}
 use Rattle.ottl_condition.specs.Subjects.{subject_of}
-use Rattle.ottl_lists.specs.Lists.{patterns_in, some_of}
+use Rattle.ottl_lists.specs.Texts.{are_known}
+use Rattle.ottl_lists.specs.Lists.{some_holds}
 use Rattle.ottl_lists.proofs.lists.some_holds.Given as goal
 
-abbrev pub invariant-loop-condition : goal.invariant-loop-condition
-invariant-loop-condition l =
-    (l.searches ≡ l.fn.searches)
-    × (are_known l.fn.searches (patterns_in (map term_of (drop l.condition-index l.conditions))) ≡ true)
-    × (some_of l.mode (map term_of (drop l.condition-index l.conditions)) (subject_of l.subject) ≡ some_of l.mode (map term_of l.conditions) (subject_of l.subject))
+abbrev pub invariant-loop-text : goal.invariant-loop-text
+invariant-loop-text l =
+    (l.conditions ≡ l.fn.conditions)
+    × (are_known l.fn.conditions l.context (drop l.text-index l.texts) ≡ true)
+    × (some_holds l.mode l.context (drop l.text-index l.texts) (subject_of l.subject) ≡ some_holds l.mode l.context l.texts (subject_of l.subject))

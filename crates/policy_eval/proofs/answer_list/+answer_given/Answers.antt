@@ -6,7 +6,7 @@ use Rattle.std.proofs.lemmas.Grind.{common_steps}
 use Rattle.policy_tree.specs.declared.policy.Policy.{Policy}
 use Rattle.policy_tree.specs.Tree.{Policy as Meant, leaf, limiting, joined, Policies}
 use Rattle.policy_tree.specs.Expressions.{expressions_of}
-use Rattle.expression.specs.Expressions.{are_known}
+use Rattle.policy_eval.specs.Searches.{are_known}
 use Rattle.policy_tree.specs.Meaning.{meaning, policy_meaning}
 use Rattle.policy_tree.specs.declared.policy.PolicyKind.TheFolds.{the_lemmas}
 use Rattle.policy_eval.specs.Policies.{plain}

@@ -12,7 +12,7 @@ use Rattle.policy_eval.specs.Meaning.{answer_of, joined_seen}
 use Rattle.policy_eval.specs.Walks.{Answers}
 use Rattle.policy_eval.proofs.Turns.{Turn, turn-first, turn-more, turn-stop, turn-last, answers-leaf, answers-rate, part_at, counted_nodes}
 use Rattle.policy_tree.specs.Expressions.{expressions_of}
-use Rattle.expression.specs.Expressions.{are_known}
+use Rattle.policy_eval.specs.Searches.{are_known}
 use Rattle.policy_eval.proofs.Known.{KnowsIn, known-at}
 use Rattle.policy_eval.proofs.verdict.+answer.Goals as goal
 
