@@ -262,13 +262,13 @@ ROWS = [
         "policies: the values or status codes of a policy are an empty list: policies[0].ottl_condition.span (fault 7.6)"]),
     ("conditions that are none", """policies = [{ name = "a", type = "ottl_condition", ottl_condition = { error_mode = "all", span = ['kind = 2', 'kind', 'true'], spanevent = ['nam == 1'] } }]""", [
         'policies[0].ottl_condition.error_mode: "all" is none of ignore, silent, propagate (fault 5)',
-        'policies: "kind = 2" is no condition: column 6: no value, name or operator begins with this character (fault 9)',
-        'policies: "kind" is no condition: column 1: a condition is wanted, and a value stands here (fault 9)',
-        'policies: "nam == 1" is no condition: column 1: no path, function or enumeration has this name (fault 9)']),
+        'policies[0].ottl_condition.span[0]: "kind = 2" is no condition: column 6: no value, name or operator begins with this character (fault 9)',
+        'policies[0].ottl_condition.span[1]: "kind" is no condition: column 1: a condition is wanted, and a value stands here (fault 9)',
+        'policies[0].ottl_condition.spanevent[0]: "nam == 1" is no condition: column 1: no path, function or enumeration has this name (fault 9)']),
     *((f"refused condition {number}", f'policies = [{{ name = "a", type = "ottl_condition", ottl_condition = {{ span = [{json.dumps(condition)}] }} }}]',
-       [f"policies: {json.dumps(condition)} is no condition: column {column}: {why} (fault 9)"]) for number, (condition, column, why) in enumerate(NO_CONDITIONS)),
+       [f"policies[0].ottl_condition.span[0]: {json.dumps(condition)} is no condition: column {column}: {why} (fault 9)"]) for number, (condition, column, why) in enumerate(NO_CONDITIONS)),
     ("a pattern in a condition", """policies = [{ name = "a", type = "ottl_condition", ottl_condition = { span = ['IsMatch(name, "(")'] } }]""", [
-        'policies: "IsMatch(name, \\"(\\")": what IsMatch takes is no regular expression (fault 9)']),
+        'policies[0].ottl_condition.span[0]: "IsMatch(name, \\"(\\")": what IsMatch takes is no regular expression (fault 9)']),
     ("65 policies", "policies = [" + ", ".join(f'{{ name = "{n}", type = "always_sample" }}' for n in range(65)) + "]", ["policies: there are more than 64 policies (fault 7.3)"]),
     ("nine deep", "policies = [" + '{ name = "a", type = "not", not = { not_sub_policy = ' * 8 + ALL + " } }" * 8 + "]", ["policies: policies are nested deeper than 8 (fault 7.2)"]),
 ]

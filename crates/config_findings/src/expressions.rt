@@ -11,12 +11,16 @@ use config_faults::ConfigFault;
 use expression::{ExpressionFault, check};
 use ottl_lists::ConditionFault;
 use ottl_text::Context;
+use policy_places::condition_place;
 use policy_tree::{ExpressionKind, Policies, PolicyExpression};
 use std::alloc::{AllocError, Global};
+use toml::Table;
 
-/// Adds the faults of each expression of policies, and what is said of those that are too big.
+/// Adds the faults of each expression of policies, which stand in the table of a configuration, and what is said of those
+/// that are too big.
 pub fn add_expressions(
     alloc: Global,
+    table: &Table,
     policies: &Policies,
     findings: &mut Findings,
     big: &mut Vec<String>,
@@ -25,12 +29,13 @@ pub fn add_expressions(
     ensures big { OnOk result (length big.new.items ≤ length big.old.items + count_by is_one (expressions_among policies.now)) }
 {
     let expressions = policies.expressions(alloc)?;
-    add_all(alloc, expressions.as_slice(), findings, big)
+    add_all(alloc, table, expressions.as_slice(), findings, big)
 }
 
 /// Adds the faults of each of these, and what is said of those that are too big.
 fn add_all(
     alloc: Global,
+    table: &Table,
     expressions: &[PolicyExpression],
     findings: &mut Findings,
     big: &mut Vec<String>,
@@ -43,7 +48,7 @@ fn add_all(
         match expression.kind {
             ExpressionKind::Regular => add_text(alloc, text, findings, big)?,
             ExpressionKind::Condition(context) => {
-                add_condition(alloc, context, text, findings, big)?
+                add_condition(alloc, table, context, text, findings, big)?
             }
         }
     }
@@ -78,6 +83,7 @@ fn add_text(
 /// The same of a text that is wanted to be a condition on this.
 fn add_condition(
     alloc: Global,
+    table: &Table,
     context: Context,
     text: &str,
     findings: &mut Findings,
@@ -88,19 +94,38 @@ fn add_condition(
 {
     match ottl_lists::check(alloc, context, text) {
         Ok(()) => Ok(()),
-        Err(ConditionFault::NotACondition(fault)) => findings.add(
-            ConfigFault::NotAnExpression,
-            condition_text(alloc, text, fault)?,
-        ),
-        Err(ConditionFault::NotAnExpression) => findings.add(
-            ConfigFault::NotAnExpression,
-            pattern_text(alloc, text)?,
-        ),
+        Err(ConditionFault::NotACondition(fault)) => {
+            let place = place_of(alloc, table, context, text)?;
+            let said = condition_text(alloc, place.as_str(), text, fault)?;
+            findings.add(ConfigFault::NotAnExpression, said)
+        }
+        Err(ConditionFault::NotAnExpression) => {
+            let place = place_of(alloc, table, context, text)?;
+            let said = pattern_text(alloc, place.as_str(), text)?;
+            findings.add(ConfigFault::NotAnExpression, said)
+        }
         Err(ConditionFault::ExpressionTooBig) => {
             let told = big_expression_text(alloc, text)?;
             big.push(told)?;
             Ok(())
         }
         Err(ConditionFault::NoMemory) => Err(AllocError),
+    }
+}
+
+/// Where in the table of a configuration a condition stands first.
+fn place_of(
+    alloc: Global,
+    table: &Table,
+    context: Context,
+    text: &str,
+) -> Result<String, AllocError> {
+    let key = match context {
+        Context::Span => "span",
+        Context::SpanEvent => "spanevent",
+    };
+    match condition_place(alloc, table, key, text)? {
+        Some(place) => Ok(place),
+        None => String::from_str(alloc, "policies"),
     }
 }

@@ -258,16 +258,21 @@ pub fn no_expression_text(alloc: Global, text: &str) -> Result<String, AllocErro
     format!(in alloc; "policies: {text:?} is no regular expression")
 }
 
-/// What is said of a text in `span` or `spanevent` that is no condition.
-pub fn condition_text(alloc: Global, text: &str, fault: Fault) -> Result<String, AllocError> {
+/// What is said of a text at a place that is no condition.
+pub fn condition_text(
+    alloc: Global,
+    place: &str,
+    text: &str,
+    fault: Fault,
+) -> Result<String, AllocError> {
     let column = fault.column;
     let kind = fault.kind;
-    format!(in alloc; "policies: {text:?} is no condition: column {column}: {kind}")
+    format!(in alloc; "{place}: {text:?} is no condition: column {column}: {kind}")
 }
 
-/// What is said of a condition whose regular expression is none.
-pub fn pattern_text(alloc: Global, text: &str) -> Result<String, AllocError> {
-    format!(in alloc; "policies: {text:?}: what IsMatch takes is no regular expression")
+/// What is said of a condition at a place whose regular expression is none.
+pub fn pattern_text(alloc: Global, place: &str, text: &str) -> Result<String, AllocError> {
+    format!(in alloc; "{place}: {text:?}: what IsMatch takes is no regular expression")
 }
 
 /// What is said of a regular expression in `values` or in a condition that is too big.

@@ -176,7 +176,7 @@ fn add_given(
         findings.add(ConfigFault::TooFewTraces, said)?;
     }
     match Policies::new(alloc, policies_at(alloc, table)?) {
-        Ok(policies) => add_expressions(alloc, &policies, findings, big),
+        Ok(policies) => add_expressions(alloc, table, &policies, findings, big),
         Err(fault) => {
             let said = policy_fault_text(alloc, table, fault)?;
             findings.add(ConfigFault::Policy(fault), said)

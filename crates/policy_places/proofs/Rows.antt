@@ -1,4 +1,4 @@
--- Worked rows: where faults of policies stand, and orders that follow. No clause needs them: they show what `Walk` and
+-- Worked rows: where faults of policies and conditions stand, and orders that follow. No clause needs them: they show what `Walk` and
 -- `Orders` say, which code and contracts follow.
 use Rattle.std.proofs.Common.{◌≡◌, ℕ, pos, true, false, List, [], ◌∷◌, map, codes, Option, Some, None, refl}
 use Rattle.std.specs.Fmt.{digits}
@@ -7,7 +7,7 @@ use Rattle.policy_tree.specs.declared.fault.PolicyFault.{PolicyFault}
 use Rattle.policy_tree.specs.declared.fault.PolicyFault.TheVariants.{EmptyList, TooDeep, TooMany, SameName, CrossedBounds, NoValues}
 use Rattle.policy_places.specs.Orders.{order_follows}
 use Rattle.policy_places.specs.Places.{key_place, item_place, doubled_name}
-use Rattle.policy_places.specs.Walk.{Place, fault_place, unnamed, leaf_settings_place}
+use Rattle.policy_places.specs.Walk.{Place, fault_place, condition_place, unnamed, leaf_settings_place}
 
 -- a policy table of this name and type, with these settings
 abbrev named : (name kind : List ℕ) → (settings : Members) → Data
@@ -58,6 +58,21 @@ within : places (policies (list nameless inner)) ≡ None
     ∷ None ∷ None ∷ []
 unfolding leaf_settings_place digits
 within = refl
+
+-- conditions on spans and on events, of a policy within a drop; a text that stands at the other key; one that stands
+-- nowhere; and one that a policy of another type has
+abbrev asking : Members
+asking = policies (list
+    (named (codes "s") (codes "string_attribute") (member (codes "span") (array (item (string (codes "d")) no_items)) no_members))
+    (named (codes "d") (codes "drop") (member (codes "drop_sub_policy") (list nameless
+    (named (codes "o") (codes "ottl_condition") (member (codes "span") (list (string (codes "a")) (string (codes "b"))) (member (codes "spanevent") (array (item (string (codes "c")) no_items)) no_members)))) no_members)))
+
+conditions : condition_place (codes "span") (codes "a") asking ∷ condition_place (codes "span") (codes "b") asking ∷ condition_place (codes "spanevent") (codes "c") asking
+    ∷ condition_place (codes "span") (codes "c") asking ∷ condition_place (codes "span") (codes "d") asking ∷ []
+    ≡ Some (codes "policies[1].drop.drop_sub_policy[1].ottl_condition.span[0]") ∷ Some (codes "policies[1].drop.drop_sub_policy[1].ottl_condition.span[1]")
+    ∷ Some (codes "policies[1].drop.drop_sub_policy[1].ottl_condition.spanevent[0]") ∷ None ∷ None ∷ []
+unfolding leaf_settings_place digits
+conditions = refl
 
 -- of two doubled names the first
 first_of_two : map doubled_name ((item (named (codes "a") (codes "and") no_members) (item (named (codes "b") (codes "and") no_members) (item (named (codes "b") (codes "and") no_members) (item (named (codes "a") (codes "and") no_members) no_items))))

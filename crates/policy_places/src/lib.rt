@@ -1,5 +1,5 @@
-//! Where a fault of the policies of a configuration stands in its table, and whether one only follows from another
-//! fault: `tsc validate` tells both. A place is written as the keys that lead to it, with the number of an item from 0.
+//! Where a fault of the policies of a configuration, or a condition, stands in its table, and whether a fault only
+//! follows from another: `tsc validate` tells both. A place is written as the keys that lead to it, with the number of an item from 0.
 //!
 //! ```
 //! let table = toml::table_from_str(alloc, "policies = [{ name = 'a', type = 'not', not = { not_sub_policy = {} } }]")?;
@@ -8,6 +8,7 @@
 #![tactic(auto)]
 
 mod bounds;
+mod conditions;
 mod doubled;
 mod orders;
 mod places;
@@ -15,4 +16,4 @@ mod walk;
 
 pub use orders::order_follows;
 pub use places::{item_place, key_place};
-pub use walk::{FaultPlace, fault_place};
+pub use walk::{FaultPlace, condition_place, fault_place};

@@ -1,9 +1,10 @@
-//! Where a fault of policies stands, as it is written there.
-ghost use Rattle.std.specs.Prelude.{◌≡◌, IfOk, option_map};
+//! Where a fault of policies, or a condition, stands, as it is written there.
+ghost use Rattle.std.specs.Prelude.{◌≡◌, IfOk, option_map, string_bytes};
 ghost use Rattle.toml.specs.View.{view, table_view, array_view, items_view};
 ghost use Rattle.policy_places.specs.Walk as spec;
 
 use crate::bounds::{are_crossed, empty_values};
+use crate::conditions::text_place;
 use crate::doubled::doubled_name;
 use crate::places::{item_place, key_place};
 use config_faults::{PolicyType, join_at, join_type, member, sub_key, type_at};
@@ -21,6 +22,15 @@ pub struct FaultPlace {
     pub name: Option<String>,
 }
 
+/// What is looked for in policies.
+#[derive(Clone, Copy)]
+pub(crate) enum Sought<'a> {
+    /// A fault.
+    Fault(PolicyFault),
+    /// A policy `ottl_condition` that has this text at this key.
+    Condition(&'a str, &'a str),
+}
+
 /// Where in the table of a configuration a fault of policies stands first, in the order of the text: an empty list, two
 /// policies of one list with the same name, bounds that leave nothing between them, or a policy without values. It is
 /// nothing where none of it is written so: then it only follows from another fault, since a policy that is no table is
@@ -32,8 +42,34 @@ pub fn fault_place(
 ) -> Result<Option<FaultPlace>, AllocError>
     ensures { IfOk result (λ found. spec.seen found ≡ spec.fault_place fault (table_view table.now)) }
 {
+    in_policies(alloc, table, Sought::Fault(fault))
+}
+
+/// Where in the table of a configuration a policy `ottl_condition` has this text first, at the key `span` or `spanevent`.
+pub fn condition_place(
+    alloc: Global,
+    table: &Table,
+    key: &str,
+    text: &str,
+) -> Result<Option<String>, AllocError>
+    ensures { IfOk result (λ found. option_map string_bytes found ≡ spec.condition_place key.now text.now (table_view table.now)) }
+{
+    match in_policies(alloc, table, Sought::Condition(key, text))? {
+        Some(place) => Ok(Some(place.keys)),
+        None => Ok(None),
+    }
+}
+
+/// In the table of a configuration.
+fn in_policies(
+    alloc: Global,
+    table: &Table,
+    sought: Sought<'_>,
+) -> Result<Option<FaultPlace>, AllocError>
+    ensures { IfOk result (λ found. spec.seen found ≡ spec.sought_place (spec.sought_of sought.entry) (table_view table.now)) }
+{
     match member(table, "policies") {
-        Some(Value::Array(items)) => in_list(alloc, "policies", items, fault),
+        Some(Value::Array(items)) => in_list(alloc, "policies", items, sought),
         _ => Ok(None),
     }
 }
@@ -44,15 +80,15 @@ fn in_list(
     alloc: Global,
     place: &str,
     items: &Array,
-    fault: PolicyFault,
+    sought: Sought<'_>,
 ) -> Result<Option<FaultPlace>, AllocError>
-    ensures { IfOk result (λ found. spec.seen found ≡ spec.list_place fault place.now (array_view items.now)) }
+    ensures { IfOk result (λ found. spec.seen found ≡ spec.list_place (spec.sought_of sought.entry) place.now (array_view items.now)) }
 {
-    let own = own_place(alloc, place, items, fault)?;
+    let own = own_place(alloc, place, items, sought)?;
     if own.is_some() {
         return Ok(own);
     }
-    in_items(alloc, place, items, fault)
+    in_items(alloc, place, items, sought)
 }
 
 /// In one of the policies of a list at a place.
@@ -61,14 +97,14 @@ fn in_items(
     alloc: Global,
     place: &str,
     items: &Array,
-    fault: PolicyFault,
+    sought: Sought<'_>,
 ) -> Result<Option<FaultPlace>, AllocError>
-    ensures { IfOk result (λ found. spec.seen found ≡ spec.items_place fault place.now 0 (array_view items.now)) }
+    ensures { IfOk result (λ found. spec.seen found ≡ spec.items_place (spec.sought_of sought.entry) place.now 0 (array_view items.now)) }
 {
     let mut index = 0u64;
     for item in items {
         let here = item_place(alloc, place, index)?;
-        let found = in_policy(alloc, here.as_str(), item, fault)?;
+        let found = in_policy(alloc, here.as_str(), item, sought)?;
         if found.is_some() {
             return Ok(found);
         }
@@ -83,15 +119,15 @@ fn in_policy(
     alloc: Global,
     place: &str,
     value: &Value,
-    fault: PolicyFault,
+    sought: Sought<'_>,
 ) -> Result<Option<FaultPlace>, AllocError>
-    ensures { IfOk result (λ found. spec.seen found ≡ spec.policy_place fault place.now (view value.now)) }
+    ensures { IfOk result (λ found. spec.seen found ≡ spec.policy_place (spec.sought_of sought.entry) place.now (view value.now)) }
 {
     match value {
         Value::Table(table) => match type_at(table) {
             Some(PolicyType::And | PolicyType::Not | PolicyType::Drop | PolicyType::Composite) =>
-                in_parts(alloc, place, join_at(table), table, fault),
-            Some(kind) => leaf_place(alloc, place, kind, table, fault),
+                in_parts(alloc, place, join_at(table), table, sought),
+            Some(kind) => leaf_place(alloc, place, kind, table, sought),
             None => Ok(None),
         },
         _ => Ok(None),
@@ -105,14 +141,14 @@ fn in_parts(
     place: &str,
     join: Join,
     table: &Table,
-    fault: PolicyFault,
+    sought: Sought<'_>,
 ) -> Result<Option<FaultPlace>, AllocError>
-    ensures { IfOk result (λ found. spec.seen found ≡ spec.parts_place fault place.now join (table_view table.now)) }
+    ensures { IfOk result (λ found. spec.seen found ≡ spec.parts_place (spec.sought_of sought.entry) place.now join (table_view table.now)) }
 {
     for (key, value) in table {
         if key.as_str() == join_type(join).name() {
             let here = key_place(alloc, place, join_type(join).name())?;
-            return in_settings(alloc, here.as_str(), join, value, fault);
+            return in_settings(alloc, here.as_str(), join, value, sought);
         }
     }
     Ok(None)
@@ -124,12 +160,12 @@ fn in_settings(
     place: &str,
     join: Join,
     value: &Value,
-    fault: PolicyFault,
+    sought: Sought<'_>,
 ) -> Result<Option<FaultPlace>, AllocError>
-    ensures { IfOk result (λ found. spec.seen found ≡ spec.settings_place fault place.now join (view value.now)) }
+    ensures { IfOk result (λ found. spec.seen found ≡ spec.settings_place (spec.sought_of sought.entry) place.now join (view value.now)) }
 {
     match value {
-        Value::Table(table) => in_sub_policies(alloc, place, join, table, fault),
+        Value::Table(table) => in_sub_policies(alloc, place, join, table, sought),
         _ => Ok(None),
     }
 }
@@ -140,14 +176,14 @@ fn in_sub_policies(
     place: &str,
     join: Join,
     table: &Table,
-    fault: PolicyFault,
+    sought: Sought<'_>,
 ) -> Result<Option<FaultPlace>, AllocError>
-    ensures { IfOk result (λ found. spec.seen found ≡ spec.sub_policies_place fault place.now join (table_view table.now)) }
+    ensures { IfOk result (λ found. spec.seen found ≡ spec.sub_policies_place (spec.sought_of sought.entry) place.now join (table_view table.now)) }
 {
     for (key, value) in table {
         if key.as_str() == sub_key(join) {
             let here = key_place(alloc, place, sub_key(join))?;
-            return in_sub_value(alloc, here.as_str(), join, value, fault);
+            return in_sub_value(alloc, here.as_str(), join, value, sought);
         }
     }
     Ok(None)
@@ -160,31 +196,33 @@ fn in_sub_value(
     place: &str,
     join: Join,
     value: &Value,
-    fault: PolicyFault,
+    sought: Sought<'_>,
 ) -> Result<Option<FaultPlace>, AllocError>
-    ensures { IfOk result (λ found. spec.seen found ≡ spec.sub_value_place fault place.now join (view value.now)) }
+    ensures { IfOk result (λ found. spec.seen found ≡ spec.sub_value_place (spec.sought_of sought.entry) place.now join (view value.now)) }
 {
     match (join, value) {
-        (Join::Not, _) => in_policy(alloc, place, value, fault),
+        (Join::Not, _) => in_policy(alloc, place, value, sought),
         (Join::And | Join::Drop | Join::FirstMatch, Value::Array(items)) => {
-            in_list(alloc, place, items, fault)
+            in_list(alloc, place, items, sought)
         }
         _ => Ok(None),
     }
 }
 
-/// Of a list at a place its own fault: it is empty, or two of its policies have the same name.
+/// Of a list at a place its own fault, where it is looked for: it is empty, or two of its policies have the same name.
 fn own_place(
     alloc: Global,
     place: &str,
     items: &Array,
-    fault: PolicyFault,
+    sought: Sought<'_>,
 ) -> Result<Option<FaultPlace>, AllocError>
-    ensures { IfOk result (λ found. spec.seen found ≡ spec.own_place fault place.now (array_view items.now)) }
+    ensures { IfOk result (λ found. spec.seen found ≡ spec.own_place (spec.sought_of sought.entry) place.now (array_view items.now)) }
 {
-    match fault {
-        PolicyFault::EmptyList => empty_place(alloc, place, items.as_slice()),
-        PolicyFault::SameName => named_place(alloc, place, doubled_name(items.as_slice())),
+    match sought {
+        Sought::Fault(PolicyFault::EmptyList) => empty_place(alloc, place, items.as_slice()),
+        Sought::Fault(PolicyFault::SameName) => {
+            named_place(alloc, place, doubled_name(items.as_slice()))
+        }
         _ => Ok(None),
     }
 }
@@ -220,19 +258,20 @@ fn named_place(
     }
 }
 
-/// Of a policy table at a place, of a type that isn't made of others, the fault of its bounds or of its values.
+/// Of a policy table at a place, of a type that isn't made of others, the fault of its bounds or of its values, or a
+/// condition.
 fn leaf_place(
     alloc: Global,
     place: &str,
     kind: PolicyType,
     table: &Table,
-    fault: PolicyFault,
+    sought: Sought<'_>,
 ) -> Result<Option<FaultPlace>, AllocError>
-    ensures { IfOk result (λ found. spec.seen found ≡ spec.leaf_place fault place.now kind (table_view table.now)) }
+    ensures { IfOk result (λ found. spec.seen found ≡ spec.leaf_place (spec.sought_of sought.entry) place.now kind (table_view table.now)) }
 {
     let here = key_place(alloc, place, kind.name())?;
     match member(table, kind.name()) {
-        Some(value) => leaf_value_place(alloc, here.as_str(), kind, value, fault),
+        Some(value) => leaf_value_place(alloc, here.as_str(), kind, value, sought),
         None => Ok(None),
     }
 }
@@ -242,12 +281,12 @@ fn leaf_value_place(
     place: &str,
     kind: PolicyType,
     value: &Value,
-    fault: PolicyFault,
+    sought: Sought<'_>,
 ) -> Result<Option<FaultPlace>, AllocError>
-    ensures { IfOk result (λ found. spec.seen found ≡ spec.leaf_value_place fault place.now kind (view value.now)) }
+    ensures { IfOk result (λ found. spec.seen found ≡ spec.leaf_value_place (spec.sought_of sought.entry) place.now kind (view value.now)) }
 {
     match value {
-        Value::Table(settings) => leaf_settings_place(alloc, place, kind, settings, fault),
+        Value::Table(settings) => leaf_settings_place(alloc, place, kind, settings, sought),
         _ => Ok(None),
     }
 }
@@ -259,27 +298,31 @@ fn leaf_settings_place(
     place: &str,
     kind: PolicyType,
     settings: &Table,
-    fault: PolicyFault,
+    sought: Sought<'_>,
 ) -> Result<Option<FaultPlace>, AllocError>
-    ensures { IfOk result (λ found. spec.seen found ≡ spec.leaf_settings_place fault place.now kind (table_view settings.now)) }
+    ensures { IfOk result (λ found. spec.seen found ≡ spec.leaf_settings_place (spec.sought_of sought.entry) place.now kind (table_view settings.now)) }
 {
-    match fault {
-        PolicyFault::CrossedBounds if are_crossed(kind, settings) => {
+    match sought {
+        Sought::Fault(PolicyFault::CrossedBounds) if are_crossed(kind, settings) => {
             Ok(Some(place_of(alloc, place)?))
         }
-        PolicyFault::NoValues => match empty_values(kind, settings) {
+        Sought::Fault(PolicyFault::NoValues) => match empty_values(kind, settings) {
             Some(key) => {
                 let values = key_place(alloc, place, key)?;
                 Ok(Some(place_of(alloc, values.as_str())?))
             }
             None => Ok(None),
         },
+        Sought::Condition(key, text) if kind == PolicyType::OttlCondition => {
+            let texts = key_place(alloc, place, key)?;
+            text_place(alloc, texts.as_str(), member(settings, key), text)
+        }
         _ => Ok(None),
     }
 }
 
 /// A place, without a name.
-fn place_of(alloc: Global, place: &str) -> Result<FaultPlace, AllocError>
+pub(crate) fn place_of(alloc: Global, place: &str) -> Result<FaultPlace, AllocError>
     ensures { IfOk result (λ found. spec.seen_place found ≡ spec.unnamed place.now) }
 {
     Ok(FaultPlace {
