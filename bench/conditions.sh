@@ -35,6 +35,8 @@ HasPrefix(attributes["http.target"], "/api/")
 Len(attributes["http.target"]) > 10
 IsMatch(attributes["http.target"], "^/api/v[0-9]+/orders$")
 trace_id.string == "00000000000000000000000000000001"
+ConvertCase(attributes["http.method"], "lower") == "post"
+Concat([attributes["http.method"], kind], "-") == "POST-2"
 IsRootSpan()
 true
 END

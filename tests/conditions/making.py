@@ -132,13 +132,26 @@ class Maker:
 
     def text(self, size):
         """A function that gives a text."""
-        draw = self.draw
-        if draw.random() < 0.5:
+        draw, way = self.draw, self.draw.random()
+        if way < 0.25:
+            return self.concat(size)
+        if way < 0.45:
+            case = draw.choice(["lower", "upper"] * 12 + ["snake", "Lower"])
+            return f'ConvertCase({self.value(str, size - 1)},{draw.choice([" ", ""])}{quoted(case)})'
+        if way < 0.7:
             return "String(" + self.value(draw.choice([str, int, bool, type(None)]), size - 1) + ")"
         of = self.value(str, size - 3)
         start = self.value(int, 2) if draw.random() < 0.1 else draw.randint(0, 2)
         count = self.value(int, 2) if draw.random() < 0.1 else draw.randint(1, 3)
         return f"Substring({of}, {start}, {count})"
+
+    def concat(self, size):
+        """Texts joined."""
+        draw = self.draw
+        count = draw.choice([0, 1, 2, 2, 2, 3, 3, 4])
+        kinds = [draw.choice([str, str, str, int, bool, type(None)]) if draw.random() < 0.95 else self.other() for _ in range(count)]
+        values = [self.value(kind, max(1, (size - 1) // max(1, count))) for kind in kinds]
+        return f'Concat([{draw.choice([", ", ","]).join(values)}], {quoted(draw.choice(["", "-", ", ", spans.word(draw)]))})'
 
     def duration(self, size):
         """A difference of times, a sum of durations, or a text's duration."""

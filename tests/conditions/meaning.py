@@ -6,6 +6,7 @@ from patterns import Fault, Unsure
 from reading import Parser
 from request import I64MAX, I64MIN, Map, Span, Time, wrap
 
+MOST = 16384  # so many bytes long is a text that is made at most
 TENTHS = 21  # digits behind the point beyond these are no nanosecond of any unit
 PARTS = 100
 NUMBERS = (int, float)
@@ -217,6 +218,34 @@ def substring(value, start, count):
         raise Error("Substring") from None
 
 
+def made(text):
+    """A text that was made, which may not be too long (D-356)."""
+    if len(utf8(text)) > MOST:
+        raise Error("too long")
+    return text
+
+
+def in_upper(letter):
+    """A letter in upper case by its simple mapping: of one that becomes several in full its title form, if that is one (D-354)."""
+    return next((form for form in (letter.upper(), letter.title()) if len(form) == 1), letter)
+
+
+def in_lower(letter):
+    """The same in lower case: just `İ` becomes several, of which the first is the simple mapping."""
+    return letter.lower()[0]
+
+
+def convert_case(value, case):
+    """A text with each letter in a case."""
+    return made("".join(map(in_lower if case == "lower" else in_upper, text_of(value))))
+
+
+def concat(values, delimiter):
+    """Texts joined: that of nil is <nil> (D-355). One text alone isn't made anew."""
+    texts = ["<nil>" if value is None else to_string(value) for value in values]
+    return made(delimiter.join(texts)) if len(texts) > 1 else texts[0]
+
+
 CALLS = {
     "IsMatch": is_match,
     "IsString": lambda value: type(value) is str,
@@ -233,6 +262,8 @@ CALLS = {
     "String": to_string,
     "Substring": substring,
     "Duration": lambda value: Duration(duration(text_of(value))),
+    "ConvertCase": convert_case,
+    "Concat": concat,
 }
 
 
@@ -243,6 +274,8 @@ def value_of(node, span):
     what, of = node.what, node.of
     if what == "literal":
         return of[0]
+    if what == "list":
+        return [value_of(each, span) for each in of]
     if what == "path":
         return keyed(of[0](span), of[1])
     if what == "call":

@@ -3,7 +3,7 @@ of nested values, patterns on short texts, parts of texts, precedence, soups of 
 import json
 import struct
 
-from meaning import Error, duration, to_double, to_int, value_of
+from meaning import MOST, Error, concat, convert_case, duration, to_double, to_int, value_of
 from patterns import Fault
 from reading import Parser, unquoted
 from request import I64MAX, I64MIN, Span, unbase64
@@ -280,5 +280,43 @@ def escaped(draw):
     return f'"{text}" {draw.choice(["==", "!="])} attributes["x"]', request([("x", {"stringValue": value})])
 
 
+def letters(draw):
+    """ConvertCase of letters of many scripts, beside what it makes."""
+    ranges = [(0x41, 0x7A), (0xC0, 0x24F), (0x370, 0x3FF), (0x400, 0x52F), (0x1E00, 0x1FFF), (0x2C00, 0x2D2F), (0xA640, 0xA7BF), (0xFB00, 0xFB17),
+              (0x10400, 0x1044F), (0x250, 0x25C), (0x2100, 0x218F)]
+    text = "".join(chr(draw.randint(*draw.choice(ranges))) for _ in range(draw.randint(0, 6))).replace("\u019b", "")  # (which got its capital after the Unicode of some Pythons)
+    case = draw.choice(["lower", "upper"])
+    right = literal(convert_case(text, case)) if draw.random() < 0.8 else f'ConvertCase(attributes["y"], "{case}")'
+    other = text.swapcase() if draw.random() < 0.5 else text
+    return f'ConvertCase(attributes["x"], "{case}") {draw.choice(OPERATORS)} {right}', request([("x", {"stringValue": text}), ("y", {"stringValue": other})])
+
+
+def joins(draw):
+    """Concat of attributes of each type, beside what it makes."""
+    kinds = {"s": "aé", "e": "", "i": -12, "b": True, "n": None, "f": 1.5}
+    names = [draw.choice("seib" * 6 + "nnf") for _ in range(draw.randint(0, 4))]
+    delimiter = draw.choice(["", ",", "é-", "<nil>"])
+    held = {"s": {"stringValue": "aé"}, "e": {"stringValue": ""}, "i": {"intValue": "-12"}, "b": {"boolValue": True}, "n": {}, "f": {"doubleValue": 1.5}}
+    left = "Concat([" + ", ".join(f'attributes["{name}"]' for name in names) + "], " + quoted(delimiter) + ")"
+    try:
+        value = concat([kinds[name] for name in names], delimiter) if names else ""
+    except Error:
+        value = "a"
+    return f"{left} {draw.choice(OPERATORS)} {quoted(value)}", request(list(held.items()))
+
+
+def long_texts(draw):
+    """Texts about as long as one that is made may be."""
+    letter = draw.choice(["a", "a", "é", "\u0250", "\u2c6f", "\u0130"])
+    count = draw.choice([MOST, MOST // 2, MOST // 3, MOST // 2 * 3 // 2]) // len(letter.encode("utf-8")) + draw.randint(-3, 3)
+    asked = request([("x", {"stringValue": letter * count}), ("y", {"stringValue": "b" * draw.randint(0, 3)})])
+    way = draw.random()
+    if way < 0.5:
+        return f'Len(ConvertCase(attributes["x"], "{draw.choice(["lower", "upper"])}")) {draw.choice(OPERATORS)} {MOST}', asked
+    values = draw.choice(['attributes["x"], attributes["y"]', 'attributes["y"], attributes["x"]', 'attributes["x"]', 'attributes["x"], attributes["x"]',
+                          'attributes["y"], Concat([attributes["x"], nil], ""), attributes["y"]'])
+    return f'Len(Concat([{values}], "{draw.choice(["", "-"])}")) {draw.choice(OPERATORS)} {MOST}', asked
+
+
 KINDS = [equality, equality, numbers, literals, durations, whole_numbers, floats, mixed, base64, equality, patterns, parts, soups, precedence, sums,
-         escaped]
+         escaped, letters, joins, long_texts]

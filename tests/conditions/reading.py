@@ -12,7 +12,7 @@ ENUMERATIONS = {"SPAN_KIND_UNSPECIFIED": 0, "SPAN_KIND_INTERNAL": 1, "SPAN_KIND_
                 "SPAN_KIND_PRODUCER": 4, "SPAN_KIND_CONSUMER": 5, "STATUS_CODE_UNSET": 0, "STATUS_CODE_OK": 1, "STATUS_CODE_ERROR": 2}
 # The functions, each with the number of its arguments. All of them are taken on events too, IsRootSpan with them (D-343).
 FUNCTIONS = {"IsMatch": 2, "IsRootSpan": 0, "IsString": 1, "IsInt": 1, "IsDouble": 1, "IsBool": 1, "IsMap": 1, "IsList": 1, "HasPrefix": 2,
-             "HasSuffix": 2, "Len": 1, "Int": 1, "Double": 1, "String": 1, "Substring": 3, "Duration": 1}
+             "HasSuffix": 2, "Len": 1, "Int": 1, "Double": 1, "String": 1, "Substring": 3, "Duration": 1, "ConvertCase": 2, "Concat": 2}
 TOKENS = [(kind, re.compile(pattern)) for kind, pattern in (
     ("bytes", r"0x[a-fA-F0-9]+"),
     ("float", r"[-+]?[0-9]*\.[0-9]+([eE][-+]?[0-9]+)?"),
@@ -257,7 +257,7 @@ class Parser:
         self.deeper()
         arguments = []
         while self.peek() != ")" or arguments:
-            arguments.append(self.pattern() if name == "IsMatch" and len(arguments) == 1 else self.value(self.sum))
+            arguments.append(self.argument(name, len(arguments)))
             if self.peek() != ",":
                 break
             self.take()
@@ -265,7 +265,38 @@ class Parser:
         self.take(")")
         if len(arguments) != FUNCTIONS[name]:
             raise Fault("arguments of " + name, column)
+        if name == "Concat" and not arguments[0].of:
+            return literal("")  # (as if it stood there: D-355)
         return Node("call", True, True, True, (name, arguments))
+
+    def argument(self, name, place):
+        """An argument of a function, by its place."""
+        if name == "IsMatch" and place == 1:
+            return self.pattern()
+        if name == "ConvertCase" and place == 1:
+            return self.case()
+        if name == "Concat":
+            return literal(self.take("text").value) if place else self.values()
+        return self.value(self.sum)
+
+    def case(self):
+        """The case of ConvertCase: a text that stands there (D-354)."""
+        kind, value, column = self.take("text")
+        if value not in ("lower", "upper"):
+            raise Fault(kind + " is no case", column)
+        return literal(value)
+
+    def values(self):
+        """The list of Concat (D-355)."""
+        self.take("[")
+        values = []
+        while self.peek() != "]" or values:
+            values.append(self.value(self.sum))
+            if self.peek() != ",":
+                break
+            self.take()
+        self.take("]")
+        return Node("list", False, True, False, values)
 
     def pattern(self):
         """The pattern of IsMatch: a text that stands there (D-308)."""

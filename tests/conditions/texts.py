@@ -2,7 +2,7 @@
 OPERATORS = ["==", "!=", "<", "<=", ">", ">="]
 ESCAPED = {"\a": "a", "\b": "b", "\f": "f", "\n": "n", "\r": "r", "\t": "t", "\v": "v", "\\": "\\", '"': '"'}
 TOKENS = ["name", "kind", "1", "2", "-1", "1.5", "+", "-", "*", "/", "==", "==", "<", "and", "or", "not", "true", "false", "nil", '"a"', "0x61",
-          "(", "(", ")", ")", "IsInt(kind)", "IsInt(", "Len(name)", ",", "SPAN_KIND_CLIENT", 'attributes["a"]', "attributes", '["a"]', "[0]", "true",
+          "(", "(", ")", ")", "IsInt(kind)", "IsInt(", "Len(name)", ",", "SPAN_KIND_CLIENT", 'attributes["a"]', "attributes", '["a"]', "[0]", "true", 'ConvertCase(name, "upper")', "Concat([name, 1], ", "Concat([", "]",
           "kind == 2", "kind == 1"]
 LETTERS = "abcdefxyzABISL0123456789.,()[]\"\\=<>!+-*/_ éä&|'{}:;#~^$?%@"
 

@@ -11,7 +11,7 @@
 use otlp_flatten::flatten;
 use otlp_json::{DecodeError, decode};
 use otlp_types::Record;
-use ottl_condition::{EvalError, Subject, evaluate, searches_for};
+use ottl_condition::{EvalError, Subject, evaluate, workroom_for};
 use ottl_text::{Context, Expression, Fault, ParseError, parse};
 use std::alloc::{AllocError, Global};
 use std::io::Read;
@@ -30,14 +30,14 @@ enum Answer {
 
 /// What a condition says, asked so many times.
 fn say(alloc: Global, condition: &Expression, subject: Subject<'_>, rounds: u32) -> Answer {
-    let mut searches = match searches_for(alloc, condition) {
-        Ok(searches) => searches,
+    let mut workroom = match workroom_for(alloc, condition) {
+        Ok(workroom) => workroom,
         Err(_) => return Answer::NoExpression,
     };
     for _ in 1..rounds {
-        let _again = evaluate(condition, subject, &mut searches);
+        let _again = evaluate(condition, subject, &mut workroom);
     }
-    match evaluate(condition, subject, &mut searches) {
+    match evaluate(condition, subject, &mut workroom) {
         Ok(holds) => Answer::Holds(holds),
         Err(error) => Answer::Error(error),
     }

@@ -1,8 +1,7 @@
 mod Comparisons
 mod Connectives
 mod Digits
-mod Equals
 pub mod Known
-mod Letters
 mod Rows
+pub mod Sent
 mod Wholes

@@ -4,7 +4,7 @@ use Rattle.std.specs.Prelude.{◌≡◌, ℕ, ℤ, pos, negsuc, Bool, true, fals
 use Rattle.otlp_types.specs.Empty.{no_resource, no_scope, plain_span}
 use Rattle.otlp_types.specs.declared.span.Event.{Event}
 use Rattle.otlp_types.specs.declared.arrival.Record.{Record}
-use Rattle.otlp_types.specs.declared.value.AnyValue.{AnyValue, Empty, Str, Int, Array, Bytes, the_lemmas}
+use Rattle.otlp_types.specs.declared.value.AnyValue.{AnyValue, Empty, Str, Int}
 use Rattle.otlp_types.specs.declared.value.KeyValue.{KeyValue}
 use Rattle.std.specs.Prelude.{None}
 use Rattle.otlp_types.specs.declared.value.AnyValue as any
@@ -14,17 +14,15 @@ use Rattle.ottl_text.specs.declared.expression.Root.TheVariants as roots
 use Rattle.ottl_text.specs.declared.expression.Key.{Key}
 use Rattle.ottl_text.specs.declared.expression.Key.TheVariants as keys
 use Rattle.ottl_text.specs.declared.expression.Literal.TheVariants as literals
+use Rattle.ottl_text.specs.declared.expression.Case.TheVariants.{Lower, Upper}
 use Rattle.ottl_text.specs.declared.expression.Unary.TheVariants as one
 use Rattle.ottl_text.specs.declared.expression.Binary.{Binary}
 use Rattle.ottl_text.specs.declared.expression.Binary.TheVariants as two
-use Rattle.ottl_text.specs.Syntax.{Term, literal, path, is_root_span, unary, binary}
+use Rattle.ottl_text.specs.Syntax.{Term, literal, path, is_root_span, unary, binary, cased, concat}
 use Rattle.ottl_condition.specs.declared.eval_error.EvalError.TheVariants as errors
 use Rattle.ottl_condition.specs.Values.{Value, nil, truth, int, float, text, bytes, map, list, time, duration, Answer}
 use Rattle.ottl_condition.specs.Paths.{kind_text, walk}
-use Rattle.std.proofs.Common.{rules}
 use Rattle.ottl_condition.specs.Subjects.{span, event}
-use Rattle.ottl_condition.specs.Encoded.{decoded}
-use Rattle.ottl_condition.specs.Equality.{lists_equal, maps_equal}
 use Rattle.ottl_condition.specs.Comparing.{compared}
 use Rattle.ottl_condition.specs.Arithmetic.{calculated}
 use Rattle.std.specs.Float.{binary64}
@@ -37,9 +35,16 @@ use lib.Utf8.{encode}
 use Rattle.ottl_text.specs.Literals.{int_of, float_of}
 use Rattle.ottl_lengths.specs.Lengths.{digits_len}
 use Rattle.ottl_duration.specs.Durations.{unit_len, with_unit, fraction_at, part_at, parts_from, unsigned_of, duration_of}
-use Rattle.ottl_condition.specs.Conversions.{as_int, as_float, as_text, as_duration, piece_of, part_of}
+use Rattle.ottl_condition.specs.Conversions.{as_int, as_float, as_text, as_like, as_duration, piece_of, part_of}
 use Rattle.ottl_condition.specs.Functions.{made_of, tested, has_prefix, has_suffix, searched}
-use Rattle.ottl_condition.specs.Meaning.{value_on, combined, meaning}
+use Rattle.ottl_condition.specs.Made as made
+use Rattle.ottl_condition.specs.Meaning.{value_on, combined, meaning, patterns_of, texts_made}
+use Rattle.std.specs.Prelude.{replicate}
+use Rattle.std.specs.Char.Unicode.Rows.{by_runs, by_strings}
+use Rattle.std.specs.Char.Unicode.ToUppercase.{uppercase_runs, uppercase_strings, to_uppercase}
+use Rattle.std.specs.Char.Unicode.ToLowercase.{lowercase_runs, lowercase_strings, to_lowercase}
+use Rattle.ottl_made_texts.specs.Cases.{letter_in}
+use Rattle.ottl_made_texts.specs.MadeTexts.{within, letters_in}
 
 abbrev samples : List Value
 samples = nil ∷ truth true ∷ int (pos 1) ∷ text (codes "1") ∷ bytes (49 ∷ []) ∷ map [] ∷ list [] ∷ []
@@ -166,26 +171,6 @@ pub floats : four (int (pos 1)) one_float ∷ four one_float (int (pos 2)) ∷ f
 unfolding compared of_int round lib.Ieee.lt lib.Ieee.eq
 floats = refl
 
--- bytes in base64: each way to end; letters at the ends of the alphabet; what stands behind an end; none
-pub encoded_bytes : each_of decoded (codes "YWJj" ∷ codes "YWI=" ∷ codes "YQ==" ∷ codes "YQ" ∷ codes "+/Az09==" ∷ codes "YW=Jj" ∷ codes "Y" ∷ codes "" ∷ []) ≡
-    codes "abc" ∷ codes "ab" ∷ codes "a" ∷ codes "a" ∷ (251 ∷ 240 ∷ 51 ∷ 211 ∷ []) ∷ codes "a" ∷ [] ∷ [] ∷ []
-encoded_bytes = refl
-
--- lists place by place, maps by their keys in either order, types apart; of two pairs of a key the first counts; `nil` in a list
-abbrev a_pair : ℕ → KeyValue
-a_pair n = pair (codes "a") (Int (pos n))
-
-abbrev b_pair : KeyValue
-b_pair = pair (codes "b") (Str (codes "x"))
-
-pub equal_lists : lists_equal (Int (pos 1) ∷ Empty ∷ []) (Int (pos 1) ∷ Empty ∷ []) ∷ lists_equal (Int (pos 1) ∷ []) (Int (pos 1) ∷ Empty ∷ []) ∷ lists_equal (Int (pos 1) ∷ Empty ∷ []) (Int (pos 1) ∷ []) ∷ lists_equal (Int (pos 1) ∷ []) (Str (codes "1") ∷ []) ∷ lists_equal (Bytes (codes "YQ==") ∷ []) (Bytes (codes "YQ") ∷ []) ∷ lists_equal (Array (Int (pos 2) ∷ []) ∷ []) (Array (Int (pos 3) ∷ []) ∷ []) ∷ [] ≡
-    true ∷ false ∷ false ∷ false ∷ true ∷ false ∷ []
-equal_lists = search (rules, the_lemmas)
-
-pub equal_maps : maps_equal (a_pair 1 ∷ b_pair ∷ []) (b_pair ∷ a_pair 1 ∷ []) ∷ maps_equal (a_pair 1 ∷ []) (a_pair 2 ∷ []) ∷ maps_equal (a_pair 1 ∷ []) (b_pair ∷ []) ∷ maps_equal (a_pair 1 ∷ []) (a_pair 1 ∷ b_pair ∷ []) ∷ maps_equal (a_pair 1 ∷ a_pair 2 ∷ []) (a_pair 1 ∷ a_pair 1 ∷ []) ∷ maps_equal (a_pair 1 ∷ a_pair 1 ∷ []) (a_pair 1 ∷ a_pair 2 ∷ []) ∷ [] ≡
-    true ∷ false ∷ false ∷ false ∷ false ∷ true ∷ []
-equal_maps = search (rules, the_lemmas)
-
 -- each path of an event, and of its span, on an event; of an event where none is asked
 abbrev happened : Event
 happened = record { time_unix_nano = 7; name = codes "retry"; attributes = pair (codes "n") (Int (pos 3)) ∷ []; dropped_attributes_count = 4 }
@@ -289,3 +274,39 @@ paths_of_spans = refl
 pub kinds : each_of kind_text (pos 0 ∷ pos 1 ∷ pos 2 ∷ pos 3 ∷ pos 4 ∷ pos 5 ∷ pos 6 ∷ negsuc 0 ∷ []) ≡
     codes "Unspecified" ∷ codes "Internal" ∷ codes "Server" ∷ codes "Client" ∷ codes "Producer" ∷ codes "Consumer" ∷ [] ∷ [] ∷ []
 kinds = refl
+
+-- the texts that values have in `Concat`; what has none
+pub likes : each_of as_like (text (codes "a") ∷ nil ∷ int (negsuc 11) ∷ truth true ∷ truth false ∷ one_float ∷ map [] ∷ list [] ∷ bytes [] ∷ duration (pos 3) ∷ time (pos 3) ∷ []) ≡
+    Ok (text (codes "a")) ∷ Ok (text (codes "<nil>")) ∷ Ok (text (codes "-12")) ∷ Ok (text (codes "true")) ∷ Ok (text (codes "false")) ∷ Err errors.NoText ∷ Err errors.NoText ∷ Err errors.NoText ∷ Err errors.NoText ∷ Err errors.NoText ∷ Err errors.NoText ∷ []
+unfolding as_like as_text digits
+likes = refl
+
+-- texts in a case; what is no text; a text as long as may be, and one byte longer
+pub in_cases : made.cased Upper (text (codes "aB1")) ∷ made.cased Lower (text (codes "aB1")) ∷ made.cased Upper nil ∷ made.cased Lower (int (pos 1)) ∷ [] ≡
+    Ok (text (codes "AB1")) ∷ Ok (text (codes "ab1")) ∷ Err errors.NotAText ∷ Err errors.NotAText ∷ []
+unfolding made.cased within letters_in letter_in by_runs by_strings uppercase_runs uppercase_strings to_uppercase lowercase_runs lowercase_strings to_lowercase chars encode
+in_cases = refl
+
+pub joins : made.joined (codes "-") (text (codes "a")) (text (codes "b")) ∷ made.joined [] (text []) (text (codes "b")) ∷ made.joined (codes "-") nil (text (codes "b")) ∷ made.joined (codes "-") (text (replicate 16382 97)) (text (codes "bc")) ∷ [] ≡
+    Ok (text (codes "a-b")) ∷ Ok (text (codes "b")) ∷ Err errors.NotAText ∷ Err errors.TextTooLong ∷ []
+unfolding made.joined within
+joins = refl
+
+-- `Concat` of three values, one within another and in a case; the error of the first value, and of another
+abbrev like : Term → Term
+like t = unary one.Like t
+
+abbrev name_on : Term
+name_on = path (record { root = roots.Name; keys = [] })
+
+abbrev letter : ℕ → Term
+letter c = literal (literals.Text (c ∷ []))
+
+pub joined_values : each_of (value_on (span sent)) (concat (like name_on) (codes ", ") (concat (like nothing) (codes ", ") (like (literal (literals.Int (pos 7))))) ∷ cased Lower (concat (like name_on) [] (like (letter 65))) ∷ concat (like (concat (like (letter 97)) (codes "-") (like (letter 98)))) (codes "+") (like (letter 99)) ∷ concat (like (at_keys (key (codes "t") ∷ key (codes "u") ∷ []))) [] (like (cased Upper nothing)) ∷ concat (like name_on) [] (like (cased Upper nothing)) ∷ concat (like (literal (literals.Bytes []))) [] (like (cased Upper nothing)) ∷ []) ≡
+    Ok (text (codes "GET /, <nil>, 7")) ∷ Ok (text (codes "get /a")) ∷ Ok (text (codes "a-b+c")) ∷ Err errors.NoKeysInside ∷ Err errors.NotAText ∷ Err errors.NoText ∷ []
+unfolding made_of as_like as_text digits made.cased made.joined within letters_in letter_in by_runs by_strings uppercase_runs uppercase_strings to_uppercase lowercase_runs lowercase_strings to_lowercase chars encode any.out-AnyValue denote.Hole.Carrier.out
+joined_values = refl
+
+-- how many texts are made, and what is searched for
+pub makers : each_of texts_made (name_on ∷ like name_on ∷ cased Lower (cased Upper name_on) ∷ concat (like name_on) [] (concat (like (cased Lower name_on)) [] (like name_on)) ∷ binary two.Or (cased Lower name_on) (concat (like name_on) [] (like name_on)) ∷ []) ≡ 0 ∷ 0 ∷ 2 ∷ 3 ∷ 2 ∷ []
+makers = refl

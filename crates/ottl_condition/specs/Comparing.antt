@@ -9,7 +9,7 @@ use Rattle.std.specs.Float.{binary64}
 use Rattle.std.specs.Float.Ieee.{of_int}
 use Rattle.ottl_text.specs.declared.expression.Binary.{Binary}
 use Rattle.ottl_text.specs.declared.expression.Binary.TheVariants as two
-use Rattle.ottl_condition.specs.Equality.{lists_equal, maps_equal}
+use Rattle.ottl_equality.specs.Equality.{lists_equal, maps_equal}
 use Rattle.ottl_condition.specs.Values.{Value, nil, truth, int, float, text, bytes, map, list, time, duration, Answer, ◌>>=◌}
 
 abbrev pub is_less : Option Ordering → Bool

@@ -1,5 +1,5 @@
 -- Functions that convert (OTTL, `ottlfuncs`: `Int`, `Double`, `String`, `Duration`), and parts of texts (`Substring`).
-use Rattle.std.specs.Prelude.{ℕ, ℤ, pos, ◌+◌, Bool, true, false, ◌&&◌, nat_le, nat_lt, List, length, take, drop, Option, Some, None, Result, Ok, Err, if◌then◌else◌}
+use Rattle.std.specs.Prelude.{ℕ, ℤ, pos, ◌+◌, Bool, true, false, ◌&&◌, nat_le, nat_lt, List, length, take, drop, Option, Some, None, Result, Ok, Err, codes, if◌then◌else◌}
 use Rattle.std.specs.Fmt.{signed_decimal}
 use Rattle.std.specs.Int.{w64}
 use Rattle.std.specs.Float.{Float, binary64, float_to_signed}
@@ -44,6 +44,11 @@ as_text (text t) = Ok (text t)
 as_text (int z) = Ok (text (signed_decimal z))
 as_text (truth b) = Ok (text (truth_text b))
 as_text _ = Err errors.NoText
+
+-- the text that a value has in `Concat` (OTTL, `StringLikeGetter`)
+unfoldable pub as_like : Value → Answer Value
+as_like nil = Ok (text (codes "<nil>"))
+as_like v = as_text v
 
 abbrev pub duration_or_error : Option ℤ → Answer Value
 duration_or_error (Some z) = Ok (duration z)

@@ -6,7 +6,7 @@ use Rattle.ottl_text.specs.declared.expression.Unary.{Unary}
 use Rattle.ottl_text.specs.declared.expression.Unary.TheVariants as one
 use Rattle.ottl_condition.specs.declared.eval_error.EvalError.TheVariants as errors
 use Rattle.ottl_condition.specs.Values.{Value, nil, truth, int, float, text, map, list, Answer, as_truth, truth_text}
-use Rattle.ottl_condition.specs.Conversions.{as_int, as_float, as_text, as_duration}
+use Rattle.ottl_condition.specs.Conversions.{as_int, as_float, as_text, as_like, as_duration}
 
 abbrev pub is_text : Value → Bool
 is_text (text t) = true
@@ -57,6 +57,7 @@ made_of one.Int v = Ok (as_int v)
 made_of one.Double v = Ok (as_float v)
 made_of one.Text v = as_text v
 made_of one.Duration v = as_duration v
+made_of one.Like v = as_like v
 
 -- one text begins with the other, or ends with it
 abbrev pub has_prefix : (text prefix : List ℕ) → Bool

@@ -1,9 +1,10 @@
 -- What an expression's value is on a span or on an event, and a condition's.
-use Rattle.std.specs.Prelude.{ℕ, Bool, true, false, List, [], ◌∷◌, ◌++◌, Ok}
+use Rattle.std.specs.Prelude.{ℕ, ◌+◌, Bool, true, false, List, [], ◌∷◌, ◌++◌, Ok}
 use Rattle.ottl_text.specs.declared.expression.Binary.{Binary}
 use Rattle.ottl_text.specs.declared.expression.Binary.TheVariants as two
+use Rattle.ottl_text.specs.declared.expression.Case.{Case}
 use Rattle.ottl_text.specs.declared.expression.Unary.{Unary}
-use Rattle.ottl_text.specs.Syntax.{Term, literal, path, is_root_span, unary, binary, is_match, substring}
+use Rattle.ottl_text.specs.Syntax.{Term, literal, path, is_root_span, unary, binary, is_match, substring, cased, concat}
 use Rattle.ottl_condition.specs.Subjects.{Subject, sent_of}
 use Rattle.ottl_condition.specs.Values.{Value, truth, literal_value, Answer, ◌>>=◌, as_truth}
 use Rattle.ottl_condition.specs.Paths.{begun, walk, is_root, parent_of}
@@ -11,6 +12,7 @@ use Rattle.ottl_condition.specs.Comparing.{compared}
 use Rattle.ottl_condition.specs.Arithmetic.{calculated}
 use Rattle.ottl_condition.specs.Conversions.{part_of}
 use Rattle.ottl_condition.specs.Functions.{made_of, tested, has_prefix, has_suffix, searched}
+use Rattle.ottl_condition.specs.Made as made
 
 abbrev pub as_condition : Value → Answer Value
 as_condition v = as_truth v >>= λ b. Ok (truth b)
@@ -56,6 +58,14 @@ made_on u r = r >>= made_of u
 abbrev pub searched_on : (pattern : List ℕ) → Answer Value → Answer Value
 searched_on pattern r = r >>= searched pattern
 
+-- a text in a case, or its error
+abbrev pub cased_on : Case → Answer Value → Answer Value
+cased_on c r = r >>= made.cased c
+
+-- a text and those behind it joined, or their error
+abbrev pub joined_on : (delimiter : List ℕ) → (first : Value) → (others : Answer Value) → Answer Value
+joined_on d x r = r >>= λ y. made.joined d x y
+
 -- the value of an expression
 abbrev pub value_on : Subject → Term → Answer Value
 value_on s (literal l) = Ok (literal_value l)
@@ -65,6 +75,8 @@ value_on s (unary u t) = made_on u (value_on s t)
 value_on s (binary b x y) = together b (value_on s x) (value_on s y)
 value_on s (is_match t pattern) = searched_on pattern (value_on s t)
 value_on s (substring x y z) = value_on s x >>= λ v. by_place v (value_on s y) (value_on s z)
+value_on s (cased c t) = cased_on c (value_on s t)
+value_on s (concat x d y) = value_on s x >>= λ v. joined_on d v (value_on s y)
 
 -- whether an expression is true; an error where it is neither true nor false
 abbrev pub truth_on : Subject → Term → Answer Bool
@@ -87,3 +99,17 @@ patterns_of (unary u t) = patterns_of t
 patterns_of (binary b x y) = patterns_of x ++ patterns_of y
 patterns_of (is_match t pattern) = patterns_of t ++ pattern ∷ []
 patterns_of (substring x y z) = patterns_of x ++ patterns_of y ++ patterns_of z
+patterns_of (cased c t) = patterns_of t
+patterns_of (concat x d y) = patterns_of x ++ patterns_of y
+
+-- how many texts are made of an expression at most
+abbrev pub texts_made : Term → ℕ
+texts_made (literal l) = 0
+texts_made (path p) = 0
+texts_made is_root_span = 0
+texts_made (unary u t) = texts_made t
+texts_made (binary b x y) = texts_made x + texts_made y
+texts_made (is_match t pattern) = texts_made t
+texts_made (substring x y z) = texts_made x + texts_made y + texts_made z
+texts_made (cased c t) = texts_made t + 1
+texts_made (concat x d y) = texts_made x + texts_made y + 1

@@ -17,7 +17,7 @@ use Rattle.ottl_condition.specs.declared.value.Value.{Value as Held}
 use Rattle.ottl_condition.specs.declared.eval_error.EvalError.{EvalError}
 use Rattle.ottl_condition.specs.declared.eval_error.EvalError.TheVariants as errors
 use Rattle.ottl_condition.specs.Subjects.{Subject, event, sent_of}
-use Rattle.ottl_condition.specs.Equality.{pair_of}
+use Rattle.ottl_equality.specs.Equality.{pair_of}
 use Rattle.ottl_condition.specs.Values.{Value, nil, int, text, map, list, time, any_value, value_of, Answer, ◌>>=◌}
 
 -- a kind's name; other numbers have none

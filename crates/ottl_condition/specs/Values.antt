@@ -6,7 +6,7 @@ use Rattle.otlp_types.specs.declared.value.AnyValue.TheOpen.{AnyValue-F}
 use Rattle.otlp_types.specs.declared.value.KeyValue.{KeyValue}
 use Rattle.ottl_text.specs.declared.expression.Literal.{Literal}
 use Rattle.ottl_text.specs.declared.expression.Literal.TheVariants as literals
-use Rattle.ottl_condition.specs.Encoded.{decoded}
+use Rattle.ottl_equality.specs.Encoded.{decoded}
 use Rattle.ottl_condition.specs.declared.value.Value.{Value as Held}
 use Rattle.ottl_condition.specs.declared.value.Value.TheVariants as declared_as
 use Rattle.ottl_condition.specs.declared.eval_error.EvalError.{EvalError}
@@ -32,6 +32,7 @@ value_of (declared_as.Bool b) = truth b
 value_of (declared_as.Int z) = int z
 value_of (declared_as.Float x) = float x
 value_of (declared_as.Text t) = text t.now
+value_of (declared_as.Made t) = text t.now
 value_of (declared_as.Digits t) = text t.bytes
 value_of (declared_as.Bytes b) = bytes b.now
 value_of (declared_as.Encoded t) = bytes (decoded t.now)

@@ -8,7 +8,7 @@ use crate::value::Value;
 use ottl_text::Binary;
 use std::num::nearest_i64_to_f64;
 
-fn of_ints<'a>(binary: Binary, left: i64, right: i64) -> Result<Value<'a>, EvalError>
+fn of_ints<'a, 'r>(binary: Binary, left: i64, right: i64) -> Result<Value<'a, 'r>, EvalError>
     ensures { answer_of result ≡ spec.of_ints binary left right }
 {
     match binary {
@@ -25,7 +25,7 @@ fn of_ints<'a>(binary: Binary, left: i64, right: i64) -> Result<Value<'a>, EvalE
     }
 }
 
-fn of_floats<'a>(binary: Binary, left: f64, right: f64) -> Result<Value<'a>, EvalError>
+fn of_floats<'a, 'r>(binary: Binary, left: f64, right: f64) -> Result<Value<'a, 'r>, EvalError>
     ensures { answer_of result ≡ spec.of_floats binary left right }
 {
     match binary {
@@ -43,7 +43,7 @@ fn of_floats<'a>(binary: Binary, left: f64, right: f64) -> Result<Value<'a>, Eva
 }
 
 /// A difference of times is a duration, the nearest that there is.
-fn of_times<'a>(binary: Binary, left: i64, right: i64) -> Result<Value<'a>, EvalError>
+fn of_times<'a, 'r>(binary: Binary, left: i64, right: i64) -> Result<Value<'a, 'r>, EvalError>
     ensures { answer_of result ≡ spec.of_times binary left right }
 {
     match binary {
@@ -52,7 +52,7 @@ fn of_times<'a>(binary: Binary, left: i64, right: i64) -> Result<Value<'a>, Eval
     }
 }
 
-fn of_durations<'a>(binary: Binary, left: i64, right: i64) -> Result<Value<'a>, EvalError>
+fn of_durations<'a, 'r>(binary: Binary, left: i64, right: i64) -> Result<Value<'a, 'r>, EvalError>
     ensures { answer_of result ≡ spec.of_durations binary left right }
 {
     match binary {
@@ -64,11 +64,11 @@ fn of_durations<'a>(binary: Binary, left: i64, right: i64) -> Result<Value<'a>, 
 
 /// What an operator makes of two numbers, times or durations.
 #[tactic(auto, unfolding(crate::specs::Arithmetic::calculated))]
-pub(crate) fn calculated<'a>(
+pub(crate) fn calculated<'a, 'r>(
     binary: Binary,
-    left: &Value<'_>,
-    right: &Value<'_>,
-) -> Result<Value<'a>, EvalError>
+    left: &Value<'_, '_>,
+    right: &Value<'_, '_>,
+) -> Result<Value<'a, 'r>, EvalError>
     ensures { answer_of result ≡ spec.calculated binary (value_of left.now) (value_of right.now) }
 {
     match (left, right) {

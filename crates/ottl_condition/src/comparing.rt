@@ -3,9 +3,8 @@ ghost use Rattle.std.specs.Prelude.{◌≡◌};
 ghost use Rattle.ottl_condition.specs.Comparing as spec;
 ghost use Rattle.ottl_condition.specs.Values.{value_of};
 
-use crate::encoded::order;
-use crate::equality::{lists_equal, maps_equal};
 use crate::value::Value;
+use ottl_equality::{lists_equal, maps_equal, order};
 use ottl_text::Binary;
 use std::cmp::Ordering;
 use std::num::nearest_i64_to_f64;
@@ -26,7 +25,7 @@ pub(crate) fn holds(binary: Binary, order: Option<Ordering>) -> bool
 }
 
 /// The order of two values, if they have one.
-fn order_of(left: &Value<'_>, right: &Value<'_>) -> Option<Ordering>
+fn order_of(left: &Value<'_, '_>, right: &Value<'_, '_>) -> Option<Ordering>
     ensures { result ≡ spec.order_of (value_of left.now) (value_of right.now) }
 {
     if let Some(left) = left.text() {
@@ -61,7 +60,7 @@ fn by_equality(binary: Binary, are_equal: bool) -> bool
 
 /// Whether a comparison holds.
 #[tactic(auto, unfolding(crate::specs::Comparing::compared))]
-pub(crate) fn compared(binary: Binary, left: &Value<'_>, right: &Value<'_>) -> bool
+pub(crate) fn compared(binary: Binary, left: &Value<'_, '_>, right: &Value<'_, '_>) -> bool
     ensures { result ≡ spec.compared binary (value_of left.now) (value_of right.now) }
 {
     match (left, right) {

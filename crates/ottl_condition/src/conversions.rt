@@ -32,7 +32,7 @@ fn number_of(truth: bool) -> i64
 
 /// `Int`: a float without its fraction, or the nearest whole number of 64 bits; the whole number that a text writes.
 #[tactic(auto, unfolding(crate::specs::Conversions::as_int))]
-pub(crate) fn as_int<'a>(value: &Value<'_>) -> Value<'a>
+pub(crate) fn as_int<'a, 'r>(value: &Value<'_, '_>) -> Value<'a, 'r>
     ensures { value_of result ≡ spec.as_int (value_of value.now) }
 {
     match value {
@@ -40,12 +40,13 @@ pub(crate) fn as_int<'a>(value: &Value<'_>) -> Value<'a>
         Value::Float(number) => Value::Int(saturating_f64_to_i64(*number)),
         Value::Bool(truth) => Value::Int(number_of(*truth)),
         Value::Text(text) => int_or_nil(text.as_bytes()),
+        Value::Made(text) => int_or_nil(text.as_bytes()),
         Value::Digits(digits) => int_or_nil(digits.as_str().as_bytes()),
         _ => Value::Nil,
     }
 }
 
-fn int_or_nil<'a>(text: &[u8]) -> Value<'a>
+fn int_or_nil<'a, 'r>(text: &[u8]) -> Value<'a, 'r>
     ensures { value_of result ≡ spec.int_or_nil (digits.int_of text.now) }
 {
     match int_of(text) {
@@ -56,7 +57,7 @@ fn int_or_nil<'a>(text: &[u8]) -> Value<'a>
 
 /// `Double`: the nearest float to a whole number, or to what a text writes.
 #[tactic(auto, unfolding(crate::specs::Conversions::as_float))]
-pub(crate) fn as_float<'a>(value: &Value<'_>) -> Value<'a>
+pub(crate) fn as_float<'a, 'r>(value: &Value<'_, '_>) -> Value<'a, 'r>
     ensures { value_of result ≡ spec.as_float (value_of value.now) }
 {
     match value {
@@ -64,12 +65,13 @@ pub(crate) fn as_float<'a>(value: &Value<'_>) -> Value<'a>
         Value::Int(number) => Value::Float(nearest_i64_to_f64(*number)),
         Value::Bool(truth) => Value::Float(nearest_i64_to_f64(number_of(*truth))),
         Value::Text(text) => float_or_nil(text.as_bytes()),
+        Value::Made(text) => float_or_nil(text.as_bytes()),
         Value::Digits(digits) => float_or_nil(digits.as_str().as_bytes()),
         _ => Value::Nil,
     }
 }
 
-fn float_or_nil<'a>(text: &[u8]) -> Value<'a>
+fn float_or_nil<'a, 'r>(text: &[u8]) -> Value<'a, 'r>
     ensures { value_of result ≡ spec.float_or_nil (digits.float_of text.now) }
 {
     match float_of(text) {
@@ -88,12 +90,13 @@ fn decimal(number: i64) -> ArrayString<32>
 
 /// `String` of a text, a whole number or a truth value; `nil` stays `nil`.
 #[tactic(auto, unfolding(crate::specs::Conversions::as_text))]
-pub(crate) fn as_text<'a>(value: &Value<'a>) -> Result<Value<'a>, EvalError>
+pub(crate) fn as_text<'a, 'r>(value: &Value<'a, 'r>) -> Result<Value<'a, 'r>, EvalError>
     ensures { answer_of result ≡ spec.as_text (value_of value.now) }
 {
     match value {
         Value::Nil => Ok(Value::Nil),
         Value::Text(text) => Ok(Value::Text(text)),
+        Value::Made(text) => Ok(Value::Made(text)),
         Value::Digits(digits) => Ok(Value::Digits(*digits)),
         Value::Int(number) => Ok(Value::Digits(decimal(*number))),
         Value::Bool(truth) => Ok(Value::Text(truth_text(*truth))),
@@ -101,9 +104,20 @@ pub(crate) fn as_text<'a>(value: &Value<'a>) -> Result<Value<'a>, EvalError>
     }
 }
 
+/// The text that a value has in `Concat`: `<nil>` of `nil`.
+#[tactic(auto, unfolding(crate::specs::Conversions::as_like))]
+pub(crate) fn as_like<'a, 'r>(value: &Value<'a, 'r>) -> Result<Value<'a, 'r>, EvalError>
+    ensures { answer_of result ≡ spec.as_like (value_of value.now) }
+{
+    match value {
+        Value::Nil => Ok(Value::Text("<nil>")),
+        _ => as_text(value),
+    }
+}
+
 /// `Duration` of a text.
 #[tactic(auto, unfolding(crate::specs::Conversions::as_duration))]
-pub(crate) fn as_duration<'a>(value: &Value<'_>) -> Result<Value<'a>, EvalError>
+pub(crate) fn as_duration<'a, 'r>(value: &Value<'_, '_>) -> Result<Value<'a, 'r>, EvalError>
     ensures { answer_of result ≡ spec.as_duration (value_of value.now) }
 {
     match value.text() {
@@ -152,11 +166,11 @@ fn piece_of(text: &[u8], start: i64, size: i64) -> Option<&str>
 
 /// `Substring`: of a text so many bytes from a place on.
 #[tactic(auto, unfolding(crate::specs::Conversions::part_of))]
-pub(crate) fn part_of<'a>(
-    of: &Value<'a>,
-    start: &Value<'_>,
-    size: &Value<'_>,
-) -> Result<Value<'a>, EvalError>
+pub(crate) fn part_of<'a, 'r>(
+    of: &Value<'a, 'r>,
+    start: &Value<'_, '_>,
+    size: &Value<'_, '_>,
+) -> Result<Value<'a, 'r>, EvalError>
     ensures { answer_of result ≡ spec.part_of (value_of of.now) (value_of start.now) (value_of size.now) }
 {
     match (of, start, size) {
@@ -166,13 +180,19 @@ pub(crate) fn part_of<'a>(
                 None => Err(EvalError::OutOfText),
             }
         }
+        (Value::Made(text), Value::Int(start), Value::Int(size)) => {
+            match piece_of(text.as_bytes(), *start, *size) {
+                Some(part) => Ok(Value::Made(part)),
+                None => Err(EvalError::OutOfText),
+            }
+        }
         (Value::Digits(digits), Value::Int(start), Value::Int(size)) => {
             match piece_of(digits.as_str().as_bytes(), *start, *size) {
                 Some(part) => Ok(Value::Digits(short_text(part))),
                 None => Err(EvalError::OutOfText),
             }
         }
-        (Value::Text(_) | Value::Digits(_), _, _) => Err(EvalError::NotANumber),
+        (Value::Text(_) | Value::Made(_) | Value::Digits(_), _, _) => Err(EvalError::NotANumber),
         _ => Err(EvalError::NotAText),
     }
 }

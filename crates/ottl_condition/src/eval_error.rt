@@ -24,8 +24,10 @@ pub enum EvalError {
     OutOfText,
     /// `Duration` of a text that is none.
     NotADuration,
-    /// `String` of a float, of bytes, a map, a list, a time or a duration: that isn't here yet.
+    /// `String` of a float, of bytes, a map, a list, a time or a duration, or such a value in `Concat`: that isn't here yet.
     NoText,
+    /// A text that `ConvertCase` or `Concat` makes would be longer than 16,384 bytes.
+    TextTooLong,
     /// The value has no length.
     NoLength,
 }

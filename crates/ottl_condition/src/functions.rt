@@ -5,7 +5,7 @@ ghost use Rattle.expression.specs.Expressions.{is_known, is_match};
 ghost use Rattle.ottl_condition.specs.Functions as spec;
 ghost use Rattle.ottl_condition.specs.Values.{value_of, answer_of};
 
-use crate::conversions::{as_duration, as_float, as_int, as_text, truth_text};
+use crate::conversions::{as_duration, as_float, as_int, as_like, as_text, truth_text};
 use crate::eval_error::EvalError;
 use crate::value::Value;
 use expression::Searches;
@@ -13,11 +13,12 @@ use itoa::Buffer;
 use ottl_text::Unary;
 
 /// The bytes of a text, the pairs of a map, the values of a list.
-fn length_of<'a>(value: &Value<'_>) -> Result<Value<'a>, EvalError>
+fn length_of<'a, 'r>(value: &Value<'_, '_>) -> Result<Value<'a, 'r>, EvalError>
     ensures { answer_of result ≡ spec.length_of (value_of value.now) }
 {
     match value {
         Value::Text(text) => Ok(Value::Int(text.len() as i64)),
+        Value::Made(text) => Ok(Value::Int(text.len() as i64)),
         Value::Digits(digits) => Ok(Value::Int(digits.len() as i64)),
         Value::Map(pairs) => Ok(Value::Int(pairs.len() as i64)),
         Value::List(values) => Ok(Value::Int(values.len() as i64)),
@@ -27,7 +28,10 @@ fn length_of<'a>(value: &Value<'_>) -> Result<Value<'a>, EvalError>
 
 /// What a function of one value makes of it.
 #[tactic(auto, unfolding(crate::specs::Functions::made_of))]
-pub(crate) fn made_of<'a>(unary: Unary, value: &Value<'a>) -> Result<Value<'a>, EvalError>
+pub(crate) fn made_of<'a, 'r>(
+    unary: Unary,
+    value: &Value<'a, 'r>,
+) -> Result<Value<'a, 'r>, EvalError>
     ensures { answer_of result ≡ spec.made_of unary (value_of value.now) }
 {
     match unary {
@@ -35,7 +39,10 @@ pub(crate) fn made_of<'a>(unary: Unary, value: &Value<'a>) -> Result<Value<'a>, 
             Ok(truth) => Ok(Value::Bool(!truth)),
             Err(error) => Err(error),
         },
-        Unary::IsString => Ok(Value::Bool(matches!(value, Value::Text(_) | Value::Digits(_)))),
+        Unary::IsString => Ok(Value::Bool(matches!(
+            value,
+            Value::Text(_) | Value::Made(_) | Value::Digits(_)
+        ))),
         Unary::IsInt => Ok(Value::Bool(matches!(value, Value::Int(_)))),
         Unary::IsDouble => Ok(Value::Bool(matches!(value, Value::Float(_)))),
         Unary::IsBool => Ok(Value::Bool(matches!(value, Value::Bool(_)))),
@@ -46,6 +53,7 @@ pub(crate) fn made_of<'a>(unary: Unary, value: &Value<'a>) -> Result<Value<'a>, 
         Unary::Double => Ok(as_float(value)),
         Unary::Text => as_text(value),
         Unary::Duration => as_duration(value),
+        Unary::Like => as_like(value),
     }
 }
 
@@ -72,7 +80,10 @@ fn has_suffix(text: &[u8], suffix: &[u8]) -> bool
 
 /// Whether a text begins with another; both have to be texts.
 #[tactic(auto, unfolding(crate::specs::Functions::tested))]
-pub(crate) fn begins<'a>(text: &Value<'_>, prefix: &Value<'_>) -> Result<Value<'a>, EvalError>
+pub(crate) fn begins<'a, 'r>(
+    text: &Value<'_, '_>,
+    prefix: &Value<'_, '_>,
+) -> Result<Value<'a, 'r>, EvalError>
     ensures { answer_of result ≡ spec.tested spec.has_prefix (value_of text.now) (value_of prefix.now) }
 {
     match (text.text(), prefix.text()) {
@@ -86,7 +97,10 @@ pub(crate) fn begins<'a>(text: &Value<'_>, prefix: &Value<'_>) -> Result<Value<'
 
 /// Whether a text ends with another; both have to be texts.
 #[tactic(auto, unfolding(crate::specs::Functions::tested))]
-pub(crate) fn ends<'a>(text: &Value<'_>, suffix: &Value<'_>) -> Result<Value<'a>, EvalError>
+pub(crate) fn ends<'a, 'r>(
+    text: &Value<'_, '_>,
+    suffix: &Value<'_, '_>,
+) -> Result<Value<'a, 'r>, EvalError>
     ensures { answer_of result ≡ spec.tested spec.has_suffix (value_of text.now) (value_of suffix.now) }
 {
     match (text.text(), suffix.text()) {
@@ -111,17 +125,18 @@ fn number_is_match(pattern: &str, number: i64, searches: &mut Searches) -> bool
 /// Whether a regular expression, which the searches know, has a match in a text, or in that of a whole number or a truth
 /// value; `nil` has none.
 #[tactic(auto, unfolding(crate::specs::Functions::searched))]
-pub(crate) fn searched<'a>(
+pub(crate) fn searched<'a, 'r>(
     pattern: &str,
-    value: &Value<'_>,
+    value: &Value<'_, '_>,
     searches: &mut Searches,
-) -> Result<Value<'a>, EvalError>
+) -> Result<Value<'a, 'r>, EvalError>
     requires known { is_known searches.old pattern.now ≡ true }
     ensures found { answer_of result ≡ spec.searched pattern.now (value_of value.now) }
     ensures same { searches.new ≡ searches.old }
 {
     match value {
         Value::Text(text) => Ok(Value::Bool(searches.finds(pattern, text))),
+        Value::Made(text) => Ok(Value::Bool(searches.finds(pattern, text))),
         Value::Digits(digits) => Ok(Value::Bool(searches.finds(pattern, digits.as_str()))),
         Value::Int(number) => Ok(Value::Bool(number_is_match(pattern, *number, searches))),
         Value::Bool(truth) => Ok(Value::Bool(searches.finds(pattern, truth_text(*truth)))),

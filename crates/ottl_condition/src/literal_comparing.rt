@@ -9,12 +9,12 @@ ghost use Rattle.ottl_condition.specs.Subjects.{subject_of};
 ghost use Rattle.ottl_condition.specs.Values.{literal_value};
 
 use crate::comparing::{compared, holds};
-use crate::equality::pair_of;
 use crate::eval_error::EvalError;
 use crate::paths::{attributes_at, path_on};
 use crate::subject::Subject;
 use crate::value::Value;
 use otlp_types::{AnyValue, KeyValue};
+use ottl_equality::pair_of;
 use ottl_text::{Binary, Key, Literal, Path};
 use std::cmp::Ordering;
 

@@ -6,13 +6,13 @@ ghost use Rattle.ottl_condition.specs.Values.{value_of, answer_of};
 ghost use Rattle.ottl_condition.specs.Subjects.{subject_of};
 ghost use Rattle.ottl_condition.specs.Paths as spec;
 
-use crate::equality::pair_of;
 use crate::eval_error::EvalError;
 use crate::subject::Subject;
 use crate::value::Value;
 use arrayvec::ArrayString;
 use hex::encode_to_slice;
 use otlp_types::{AnyValue, Ids, KeyValue, Record};
+use ottl_equality::pair_of;
 use ottl_text::{Key, Path, Root};
 use span_ids::{SpanId, TraceId};
 
@@ -93,7 +93,7 @@ pub(crate) fn is_root(sent: &Record) -> bool
 }
 
 /// An id of a span as a value; none is zeros.
-fn span_id_value<'a>(id: Option<SpanId>) -> Value<'a>
+fn span_id_value<'a, 'r>(id: Option<SpanId>) -> Value<'a, 'r>
     ensures { value_of result ≡ spec.span_id_value id }
 {
     match id {
@@ -103,7 +103,7 @@ fn span_id_value<'a>(id: Option<SpanId>) -> Value<'a>
 }
 
 /// The ids of a span as values; those of none are zeros.
-fn id_value<'a>(root: Root, ids: Option<Ids>) -> Value<'a>
+fn id_value<'a, 'r>(root: Root, ids: Option<Ids>) -> Value<'a, 'r>
     ensures { value_of result ≡ spec.id_value root ids }
 {
     match (root, ids) {
@@ -116,7 +116,7 @@ fn id_value<'a>(root: Root, ids: Option<Ids>) -> Value<'a>
 }
 
 /// The value of a path before its keys: of an event just where one is asked.
-fn begun<'a>(root: Root, subject: &Subject<'a>) -> Value<'a>
+fn begun<'a, 'r>(root: Root, subject: &Subject<'a>) -> Value<'a, 'r>
     ensures { value_of result ≡ spec.begun root (subject_of subject.now) }
 {
     match (root, subject) {
@@ -151,7 +151,7 @@ pub(crate) fn attributes_at<'a>(root: Root, subject: &Subject<'a>) -> Option<&'a
 }
 
 /// What a span has.
-fn root_value(root: Root, sent: &Record) -> Value<'_>
+fn root_value<'a, 'r>(root: Root, sent: &'a Record) -> Value<'a, 'r>
     ensures { value_of result ≡ spec.root_value root sent.now }
 {
     let span = sent.span.get();
@@ -176,7 +176,7 @@ fn root_value(root: Root, sent: &Record) -> Value<'_>
 }
 
 /// The value of a path of what the span was sent under.
-fn outer_value(root: Root, sent: &Record) -> Value<'_>
+fn outer_value<'a, 'r>(root: Root, sent: &'a Record) -> Value<'a, 'r>
     ensures { value_of result ≡ spec.outer_value root sent.now }
 {
     let resource = sent.resource.get();
@@ -195,7 +195,7 @@ fn outer_value(root: Root, sent: &Record) -> Value<'_>
 }
 
 /// The value of the first pair of a key, if there is one.
-fn look_up<'a>(key: &str, pairs: &'a [KeyValue]) -> Option<Value<'a>>
+fn look_up<'a, 'r>(key: &str, pairs: &'a [KeyValue]) -> Option<Value<'a, 'r>>
     ensures { option_map value_of result ≡ spec.look_up key.now pairs.now }
 {
     match pair_of(key, pairs) {
@@ -205,7 +205,7 @@ fn look_up<'a>(key: &str, pairs: &'a [KeyValue]) -> Option<Value<'a>>
 }
 
 /// The value at a place, from 0.
-fn value_at(place: i64, values: &[AnyValue]) -> Option<Value<'_>>
+fn value_at<'a, 'r>(place: i64, values: &'a [AnyValue]) -> Option<Value<'a, 'r>>
     ensures { option_map value_of result ≡ spec.value_at place values.now }
 {
     if place < 0 {
@@ -218,7 +218,7 @@ fn value_at(place: i64, values: &[AnyValue]) -> Option<Value<'_>>
 }
 
 /// What a key finds in a value: a map may have nothing under it, a list has to have the place.
-fn step_into<'a>(value: &Value<'a>, key: &Key) -> Result<Option<Value<'a>>, EvalError>
+fn step_into<'a, 'r>(value: &Value<'a, 'r>, key: &Key) -> Result<Option<Value<'a, 'r>>, EvalError>
     ensures { spec.found_of result ≡ spec.step_into (value_of value.now) key.now }
 {
     match (value, key) {
@@ -234,7 +234,7 @@ fn step_into<'a>(value: &Value<'a>, key: &Key) -> Result<Option<Value<'a>>, Eval
 }
 
 /// What keys find, one inside the other.
-fn walk<'a>(value: &Value<'a>, keys: &[Key]) -> Result<Value<'a>, EvalError>
+fn walk<'a, 'r>(value: &Value<'a, 'r>, keys: &[Key]) -> Result<Value<'a, 'r>, EvalError>
     ensures { answer_of result ≡ spec.walk (value_of value.now) keys.now }
 {
     match keys.split_first() {
@@ -249,7 +249,10 @@ fn walk<'a>(value: &Value<'a>, keys: &[Key]) -> Result<Value<'a>, EvalError>
 
 /// What a path finds. (Where one key follows attributes, which is most often so, no map is made a value.)
 #[tactic(auto, using(crate::proofs::Comparisons::key_found))]
-pub(crate) fn path_on<'a>(subject: &Subject<'a>, path: &Path) -> Result<Value<'a>, EvalError>
+pub(crate) fn path_on<'a, 'r>(
+    subject: &Subject<'a>,
+    path: &Path,
+) -> Result<Value<'a, 'r>, EvalError>
     ensures { answer_of result ≡ spec.walk (spec.begun path.now.root (subject_of subject.now)) path.now.keys }
 {
     match (path.keys.as_slice(), attributes_at(path.root, subject)) {

@@ -11,7 +11,7 @@ use std::alloc::{AllocError, Global};
 
 /// What searches for the regular expressions of a condition. `Err` where memory was refused, or a text is no regular
 /// expression (`expression::check` tells which).
-pub fn searches_for(alloc: Global, condition: &Expression) -> Result<Searches, AllocError>
+pub(crate) fn searches_for(alloc: Global, condition: &Expression) -> Result<Searches, AllocError>
     ensures { IfOk result (λ searches. are_known searches (patterns_of (term_of condition.now)) ≡ true) }
 {
     let mut patterns = List::new(alloc);
@@ -32,8 +32,8 @@ pub fn put_patterns(
     ensures { OnOk result (found.new ≡ found.old ++ patterns_of (term_of expression.now)) }
 {
     match expression {
-        Expression::Unary(_, of) => put_patterns(alloc, of, found),
-        Expression::Binary(_, left, right) => {
+        Expression::Unary(_, of) | Expression::Cased(_, of) => put_patterns(alloc, of, found),
+        Expression::Binary(_, left, right) | Expression::Concat(left, _, right) => {
             put_patterns(alloc, left, found)?;
             put_patterns(alloc, right, found)?;
             Ok(())

@@ -1,23 +1,25 @@
 //! Values of expressions.
 ghost use Rattle.std.specs.Prelude.{◌≡◌};
 ghost use Rattle.std.specs.Option.{option_copied, option_map};
-ghost use Rattle.ottl_condition.specs.Encoded.{bytes_of};
+ghost use Rattle.ottl_equality.specs.Encoded.{bytes_of};
 ghost use Rattle.ottl_condition.specs.Values as spec;
 
-use crate::encoded::{Bytes, Part};
 use crate::eval_error::EvalError;
 use arrayvec::ArrayString;
 use otlp_types::{AnyValue, KeyValue};
+use ottl_equality::{Bytes, Part};
 use ottl_text::Literal;
 
-/// The value of an expression, which it borrows from the expression or the span.
+/// The value of an expression, which it borrows from the expression or the span, or from the room for texts.
 #[derive(Drop)]
-pub enum Value<'a> {
+pub enum Value<'a, 'r> {
     Nil,
     Bool(bool),
     Int(i64),
     Float(f64),
     Text(&'a str),
+    /// A text that was made in room for it.
+    Made(&'r str),
     /// The hex digits of an id.
     Digits(ArrayString<32>),
     Bytes(&'a [u8]),
@@ -31,9 +33,9 @@ pub enum Value<'a> {
     Duration(i64),
 }
 
-impl<'a> Value<'a> {
+impl<'a, 'r> Value<'a, 'r> {
     /// The value of an attribute.
-    pub(crate) fn of_attribute(value: &'a AnyValue) -> Value<'a>
+    pub(crate) fn of_attribute(value: &'a AnyValue) -> Value<'a, 'r>
         ensures { spec.value_of result ≡ spec.any_value value.now }
     {
         match value {
@@ -49,7 +51,7 @@ impl<'a> Value<'a> {
     }
 
     /// The value of a literal.
-    pub(crate) fn of_literal(literal: &'a Literal) -> Value<'a>
+    pub(crate) fn of_literal(literal: &'a Literal) -> Value<'a, 'r>
         ensures { spec.value_of result ≡ spec.literal_value literal.now }
     {
         match literal {
@@ -63,9 +65,9 @@ impl<'a> Value<'a> {
     }
 }
 
-impl<'a> Value<'a> {
+impl<'a, 'r> Value<'a, 'r> {
     /// The same value once more.
-    pub(crate) fn again(&self) -> Value<'a>
+    pub(crate) fn again(&self) -> Value<'a, 'r>
         ensures { spec.value_of result ≡ spec.value_of self.now }
     {
         match self {
@@ -74,6 +76,7 @@ impl<'a> Value<'a> {
             Value::Int(number) => Value::Int(*number),
             Value::Float(number) => Value::Float(*number),
             Value::Text(text) => Value::Text(text),
+            Value::Made(text) => Value::Made(text),
             Value::Digits(digits) => Value::Digits(*digits),
             Value::Bytes(bytes) => Value::Bytes(bytes),
             Value::Encoded(text) => Value::Encoded(text),
@@ -85,7 +88,7 @@ impl<'a> Value<'a> {
     }
 }
 
-impl Value<'_> {
+impl Value<'_, '_> {
     /// Whether it is true; an error where it is neither true nor false.
     pub(crate) fn truth(&self) -> Result<bool, EvalError>
         ensures { result ≡ spec.as_truth (spec.value_of self.now) }
@@ -102,6 +105,7 @@ impl Value<'_> {
     {
         match self {
             Value::Text(text) => Some(text),
+            Value::Made(text) => Some(text),
             Value::Digits(digits) => Some(digits.as_str()),
             _ => None,
         }

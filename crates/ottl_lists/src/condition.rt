@@ -3,36 +3,33 @@ ghost use Rattle.std.specs.Prelude.{◌≡◌, IfOk};
 ghost use Rattle.ottl_condition.specs.Subjects.{subject_of};
 ghost use Rattle.ottl_lists.specs.Texts.{is_the, said_of};
 
-use expression::Searches;
 use otlp_types::Text;
-use ottl_condition::{EvalError, Subject, evaluate, searches_for};
+use ottl_condition::{EvalError, Subject, Workroom, evaluate, workroom_for};
 use ottl_text::{Context, Expression, parse};
 use std::alloc::{AllocError, Global};
 use std::marker::Model;
 
-/// A condition with what it is read as and what searches for its regular expressions, which contracts see as what it is asked of
-/// and its text.
+/// A condition with what it is read as and what it is asked with, which contracts see as what it is asked of and its text.
 #[derive(Drop)]
 pub struct Condition {
     context: Context,
     text: Text,
     read: Expression,
-    searches: Searches,
+    workroom: Workroom,
 }
 
 impl Model for Condition {
-    ghost use Rattle.std.specs.Prelude.{◌≡◌, ℕ, List, Ok, true};
-    ghost use Rattle.expression.specs.Expressions.{are_known};
+    ghost use Rattle.std.specs.Prelude.{◌≡◌, ℕ, List, Ok};
     ghost use Rattle.ottl_text.specs.declared.expression.Context.{Context};
     ghost use Rattle.ottl_text.specs.Grammar.{condition_of};
     ghost use Rattle.ottl_text.specs.Syntax.{term_of};
-    ghost use Rattle.ottl_condition.specs.Meaning.{patterns_of};
+    ghost use Rattle.ottl_condition.specs.Workrooms.{Serves};
 
     ghost Value = { Context × List ℕ };
 
     ghost view = { λ it. (it.context, it.text) };
 
-    ghost invariant = { λ it. (condition_of it.context it.text ≡ Ok (term_of it.read)) × (are_known it.searches (patterns_of (term_of it.read)) ≡ true) };
+    ghost invariant = { λ it. (condition_of it.context it.text ≡ Ok (term_of it.read)) × Serves it.workroom (term_of it.read) };
 }
 
 impl Condition {
@@ -44,7 +41,7 @@ impl Condition {
             Ok(read) => Ok(Condition {
                 context,
                 text: Text::from_str(alloc, text)?,
-                searches: searches_for(alloc, &read)?,
+                workroom: workroom_for(alloc, &read)?,
                 read,
             }),
             Err(_) => Err(AllocError),
@@ -64,6 +61,6 @@ impl Condition {
         ensures said { result ≡ said_of self.old.0 self.old.1 (subject_of subject.entry) }
         ensures same { self.new ≡ self.old }
     {
-        evaluate(&self.read, subject, &mut self.searches)
+        evaluate(&self.read, subject, &mut self.workroom)
     }
 }

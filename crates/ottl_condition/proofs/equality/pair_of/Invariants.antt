@@ -1,6 +1,0 @@
-use Rattle.std.proofs.Common.{◌≡◌, drop}
-use Rattle.ottl_condition.specs.Equality.{pair_of}
-use Rattle.ottl_condition.proofs.equality.pair_of.Given as goal
-
-abbrev pub invariant-loop-pair : goal.invariant-loop-pair
-invariant-loop-pair l = pair_of l.key (drop l.pair-index l.pairs) ≡ pair_of l.key l.pairs

@@ -1,0 +1,3 @@
+mod Equals
+mod EqualityRows
+mod Letters
