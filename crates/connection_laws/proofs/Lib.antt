@@ -1,0 +1,5 @@
+mod Runs
+mod Pieces
+mod Replies
+mod Alike
+mod Rows
