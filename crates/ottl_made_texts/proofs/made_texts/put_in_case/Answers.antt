@@ -10,10 +10,11 @@ loop-letter-preserved c =
     let held = c.loop-letter.invariant in
     let parts = c.in-Some.ensures.steps.0 in
     let step = letters_in-step c.args.case _ _ c.in-Some.letter held.0 parts in
-    let fits : length c.loop-letter.room.bytes + length (encode_utf8 c.letter_in.result) ≤ most_bytes = search rules in
-    (IsUtf8-past_char _ _ c.in-Some.letter held.0 parts
-    , rw (c.in-Ok.ensures.ok, c.letter_in.ensures, append_assoc) (rw step at held.1)
-    , rw (c.in-Ok.ensures.ok, length-append) fits)
+    let fits : length c.loop-letter.room.bytes + length (encode_utf8 c.letter_in.result) ≤ most_bytes = search rules in (
+      IsUtf8-past_char _ _ c.in-Some.letter held.0 parts,
+      rw (c.in-Ok.ensures.ok, c.letter_in.ensures, append_assoc) (rw step at held.1),
+      rw (c.in-Ok.ensures.ok, length-append) fits,
+    )
 
 pub returns-in-Err-clause-fits : goal.returns-in-Err-clause-fits
 returns-in-Err-clause-fits c =
