@@ -1,0 +1,6 @@
+//! The text of a condition's tree.
+#![tactic(auto)]
+
+mod laws;
+
+pub use laws::prints_as_itself;
