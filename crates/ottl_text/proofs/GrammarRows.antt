@@ -5,16 +5,17 @@ use Rattle.std.specs.Str.{is_utf8, chars}
 use lib.Utf8.{encode}
 use Rattle.ottl_text.proofs.Rows.{pieces_on_literals}
 use Rattle.ottl_text.specs.Literals.{int_of, float_of, bytes_of, text_of}
-use Rattle.ottl_text.specs.Names.{enumeration_of, unary_of, binary_of, number_root_of, span_root_of, event_root_of, outer_root_of, root_of}
-use Rattle.ottl_text.specs.Syntax.{Term, literal, path, is_root_span, unary, binary, is_match, substring}
+use Rattle.ottl_text.specs.Names.{enumeration_of, unary_of, binary_of, case_named, number_root_of, span_root_of, event_root_of, outer_root_of, root_of}
+use Rattle.ottl_text.specs.Syntax.{Term, literal, path, is_root_span, unary, binary, is_match, substring, cased, concat}
 use Rattle.ottl_text.specs.Gives.{Read}
-use Rattle.ottl_text.specs.Grammar.{next_at, after_sign, joined, text_at, bytes_at, int_at, float_at, key_of, key_at, keyed, path_at, pattern_at, root_span_at, literal_at, argument_at, unary_at, binary_at, match_at, substring_at, not_at, inner_at, named_at, word_at, operand, expression, operators, condition_of}
+use Rattle.ottl_text.specs.Grammar.{next_at, after_sign, joined, text_at, bytes_at, int_at, float_at, key_of, key_at, keyed, path_at, pattern_at, case_at, delimiter_at, no_values_at, concat_at, root_span_at, literal_at, argument_at, unary_at, binary_at, match_at, substring_at, cased_at, not_at, inner_at, named_at, word_at, operand, expression, operators, values, condition_of}
 use Rattle.ottl_text.specs.declared.expression.Context.TheVariants as contexts
 use Rattle.ottl_text.specs.declared.expression.Root.{Root}
 use Rattle.ottl_text.specs.declared.expression.Root.TheVariants as roots
 use Rattle.ottl_text.specs.declared.expression.Key.{Key}
 use Rattle.ottl_text.specs.declared.expression.Key.TheVariants as keys
 use Rattle.ottl_text.specs.declared.expression.Literal.TheVariants as literals
+use Rattle.ottl_text.specs.declared.expression.Case.TheVariants as cases
 use Rattle.ottl_text.specs.declared.expression.Unary.TheVariants as one
 use Rattle.ottl_text.specs.declared.expression.Binary.TheVariants as two
 use Rattle.ottl_text.specs.declared.fault.FaultKind.{FaultKind}
@@ -22,7 +23,7 @@ use Rattle.ottl_text.specs.declared.fault.FaultKind.TheVariants as faults
 
 -- what a row unfolds to compute the condition that a text is, where it is written out
 unfoldable pub conditions_on_literals : ⊤
-unfolding pieces_on_literals is_utf8 chars encode int_of float_of bytes_of text_of enumeration_of unary_of binary_of number_root_of span_root_of event_root_of outer_root_of root_of next_at after_sign joined text_at bytes_at int_at float_at key_of key_at keyed path_at pattern_at root_span_at literal_at argument_at unary_at binary_at match_at substring_at not_at inner_at named_at word_at operand expression operators condition_of
+unfolding pieces_on_literals is_utf8 chars encode int_of float_of bytes_of text_of enumeration_of unary_of binary_of case_named number_root_of span_root_of event_root_of outer_root_of root_of next_at after_sign joined text_at bytes_at int_at float_at key_of key_at keyed path_at pattern_at case_at delimiter_at no_values_at concat_at root_span_at literal_at argument_at unary_at binary_at match_at substring_at cased_at not_at inner_at named_at word_at operand expression operators values condition_of
 conditions_on_literals = tt
 
 abbrev at_root : Root → List Key → Term
@@ -107,3 +108,17 @@ pub of_parts : map (condition_of contexts.Span) (codes "Substring(name, 0, Len(n
     ∷ refused_as faults.NoComma 18 ∷ []
 unfolding conditions_on_literals
 of_parts = refl
+
+-- texts in a case, and joined: of three values, of one, of none
+pub of_made_texts : map (condition_of contexts.Span) (codes "ConvertCase(name, \"lower\") == \"a\"" ∷ codes "Concat([name, ConvertCase(\"b\", \"upper\"), kind], \"-\") == \"\"" ∷ codes "Concat([], \",\") == Concat([name], \"\")" ∷ []) ≡
+    Ok (binary two.Equal (cased cases.Lower name) (said (codes "a")))
+    ∷ Ok (binary two.Equal (concat (unary one.Like name) (codes "-") (concat (unary one.Like (cased cases.Upper (said (codes "b")))) (codes "-") (unary one.Like kind))) (said []))
+    ∷ Ok (binary two.Equal (said []) (unary one.Like name)) ∷ []
+unfolding conditions_on_literals
+of_made_texts = refl
+
+-- another case; a case that isn't written out; no list, no comma in it, no value behind one; no delimiter
+pub of_no_made_texts : map (condition_of contexts.Span) (codes "ConvertCase(name, \"snake\") == \"a\"" ∷ codes "ConvertCase(name, kind) == \"a\"" ∷ codes "Concat(name, \",\") == \"a\"" ∷ codes "Concat([name kind], \",\") == \"a\"" ∷ codes "Concat([name, ], \",\") == \"a\"" ∷ codes "Concat([name]) == \"a\"" ∷ codes "Concat([name], kind) == \"a\"" ∷ codes "Concat([name == 1], \"\") == \"a\"" ∷ []) ≡
+    refused_as faults.NoCase 19 ∷ refused_as faults.NoCase 19 ∷ refused_as faults.NoOpeningBracket 8 ∷ refused_as faults.NoClosingBracket 14 ∷ refused_as faults.NoValueHere 15 ∷ refused_as faults.NoComma 14 ∷ refused_as faults.NoDelimiter 16 ∷ refused_as faults.NoClosingBracket 14 ∷ []
+unfolding conditions_on_literals
+of_no_made_texts = refl

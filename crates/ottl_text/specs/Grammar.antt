@@ -3,7 +3,7 @@
 --   expression = operand { operator operand }     or < and < comparisons < + - < * /, from left to right
 --   operand    = literal | path | "not" comparison | "(" expression ")" | call
 --   path       = name { "[" (text | int) "]" }
---   call       = function "(" [ value { "," value } ] ")"
+--   call       = function "(" [ value { "," value } ] ")" | "Concat" "(" "[" [ value { "," value } ] "]" "," text ")"
 --
 -- The operands of `or`, `and` and `not` are conditions, those of the others values. A comparison has two operands.
 use Rattle.std.specs.Prelude.{ℕ, zero, suc, ◌+◌, ◌-◌, Bool, true, false, ◌&&◌, ◌||◌, ◌==◌, nat_le, ℤ, List, [], ◌∷◌, ◌++◌, length, codes, bytes_eq, Option, Some, None, Result, Ok, Err, if◌then◌else◌}
@@ -13,6 +13,7 @@ use Rattle.ottl_text.specs.declared.expression.Key.{Key}
 use Rattle.ottl_text.specs.declared.expression.Key.TheVariants as keys
 use Rattle.ottl_text.specs.declared.expression.Literal.{Literal}
 use Rattle.ottl_text.specs.declared.expression.Literal.TheVariants as literals
+use Rattle.ottl_text.specs.declared.expression.Case.{Case}
 use Rattle.ottl_text.specs.declared.expression.Unary.{Unary}
 use Rattle.ottl_text.specs.declared.expression.Unary.TheVariants as one
 use Rattle.ottl_text.specs.declared.expression.Binary.{Binary}
@@ -28,8 +29,8 @@ use Rattle.std.specs.Float.{Float}
 use Rattle.ottl_lengths.specs.Lengths.{skip_blank}
 use Rattle.ottl_text.specs.Tokens.{Piece, end, bytes, float, int, text, word, sign, next_piece}
 use Rattle.ottl_text.specs.Literals.{int_of, float_of, bytes_of, text_of}
-use Rattle.ottl_text.specs.Names.{enumeration_of, unary_of, binary_of, root_of, takes_keys, operator_of, precedence}
-use Rattle.ottl_text.specs.Syntax.{Term, literal, path, is_root_span, unary, binary, is_match, substring, is_condition, is_value, suits}
+use Rattle.ottl_text.specs.Names.{enumeration_of, unary_of, binary_of, case_named, root_of, takes_keys, operator_of, precedence}
+use Rattle.ottl_text.specs.Syntax.{Term, literal, path, is_root_span, unary, binary, is_match, substring, cased, concat, is_condition, is_value, suits}
 use Rattle.ottl_text.specs.Gives.{Read, ◌>>=◌}
 
 -- so many levels may nest, or operators stand in a row
@@ -130,6 +131,44 @@ module _ (behind : ℕ) where
   unfoldable pub pattern_at : List ℕ → Read (List ℕ × List ℕ)
   pattern_at s = next_at s >>= λ p. pattern_of p.0 s p.1
 
+  -- what `ConvertCase` makes of letters, and what is left
+  abbrev pub or_no_case : Option Case → (s rest : List ℕ) → Read (Case × List ℕ)
+  or_no_case (Some c) s rest = Ok (c, rest)
+  or_no_case None s rest = Err (fault_at faults.NoCase s)
+
+  abbrev pub case_of : Piece → (s rest : List ℕ) → Read (Case × List ℕ)
+  case_of (text written) s rest = or_no_case (case_named written) s rest
+  case_of _ s rest = Err (fault_at faults.NoCase s)
+
+  unfoldable pub case_at : List ℕ → Read (Case × List ℕ)
+  case_at s = next_at s >>= λ p. case_of p.0 s p.1
+
+  -- what `Concat` puts between texts, and what is left behind its call
+  abbrev pub delimiter_of : Piece → (s rest : List ℕ) → Read (List ℕ × List ℕ)
+  delimiter_of (text written) s rest = text_at written s >>= λ t. after_sign 41 faults.NoClosing rest >>= λ s. Ok (t, s)
+  delimiter_of _ s rest = Err (fault_at faults.NoDelimiter s)
+
+  unfoldable pub delimiter_at : List ℕ → Read (List ℕ × List ℕ)
+  delimiter_at s = after_sign 44 faults.NoComma s >>= λ s. next_at s >>= λ p. delimiter_of p.0 s p.1
+
+  -- `Concat` of no value
+  unfoldable pub no_values_at : List ℕ → Read (Term × List ℕ)
+  no_values_at s = delimiter_at s >>= λ p. Ok (literal (literals.Text []), p.1)
+
+  -- what stands behind a value of `Concat`, which more values follow, and else the delimiter
+  abbrev pub behind_value : Term → Piece → (s rest : List ℕ) → (more : Read (Term × List ℕ × List ℕ)) → Read (Term × List ℕ × List ℕ)
+  behind_value t p s rest more =
+      if is_the_sign 44 p then (more >>= λ m. Ok (concat (unary one.Like t) m.1 m.0, m.1, m.2))
+      else if is_the_sign 93 p then (delimiter_at rest >>= λ d. Ok (unary one.Like t, d.0, d.1))
+      else Err (fault_at faults.NoClosingBracket s)
+
+  -- `Concat`, behind its name, where `values` is what it makes of values, its delimiter, and what is left
+  unfoldable pub concat_at : (values : List ℕ → Read (Term × List ℕ × List ℕ)) → List ℕ → Read (Term × List ℕ)
+  concat_at values s =
+      after_sign 40 faults.NoOpening s >>= λ s. after_sign 91 faults.NoOpeningBracket s >>= λ s. next_at s >>= λ p.
+      if is_the_sign 93 p.0 then no_values_at p.1
+      else (values s >>= λ m. Ok (m.0, m.2))
+
   -- `IsRootSpan`, behind its name
   unfoldable pub root_span_at : List ℕ → Read (Term × List ℕ)
   root_span_at s = after_sign 40 faults.NoOpening s >>= λ s. after_sign 41 faults.NoClosing s >>= λ s. Ok (is_root_span, s)
@@ -176,6 +215,13 @@ module _ (behind : ℕ) where
         after_sign 44 faults.NoComma q.1 >>= λ s. argument_at s >>= λ r.
         after_sign 41 faults.NoClosing r.1 >>= λ s. Ok (substring p.0 q.0 r.0, s)
 
+    -- `ConvertCase`
+    unfoldable pub cased_at : List ℕ → Read (Term × List ℕ)
+    cased_at s =
+        after_sign 40 faults.NoOpening s >>= λ s. argument_at s >>= λ p.
+        after_sign 44 faults.NoComma p.1 >>= λ s. case_at s >>= λ c.
+        after_sign 41 faults.NoClosing c.1 >>= λ s. Ok (cased c.0 p.0, s)
+
     -- behind `not`
     unfoldable pub not_at : List ℕ → Read (Term × List ℕ)
     not_at s = read 3 s >>= λ p. if is_condition p.0 then Ok (unary one.Not p.0, p.1) else Err (fault_at faults.NotACondition s)
@@ -206,27 +252,31 @@ module _ (behind : ℕ) where
       unfoldable pub named_at : List ℕ → (s rest : List ℕ) → Read (Term × List ℕ)
       named_at w s rest = by_unary (unary_of w) w s rest
 
-      -- a name
-      unfoldable pub word_at : List ℕ → (s rest : List ℕ) → Read (Term × List ℕ)
-      word_at w s rest =
-          if bytes_eq w (codes "not") then not_at rest
-          else if bytes_eq w (codes "nil") then Ok (literal literals.Nil, rest)
-          else if bytes_eq w (codes "true") then Ok (literal (literals.Bool true), rest)
-          else if bytes_eq w (codes "false") then Ok (literal (literals.Bool false), rest)
-          else if bytes_eq w (codes "IsRootSpan") then root_span_at rest
-          else if bytes_eq w (codes "IsMatch") then match_at rest
-          else if bytes_eq w (codes "Substring") then substring_at rest
-          else named_at w s rest
+      -- `values` reads those of `Concat`
+      module _ (values : List ℕ → Read (Term × List ℕ × List ℕ)) where
+        -- a name
+        unfoldable pub word_at : List ℕ → (s rest : List ℕ) → Read (Term × List ℕ)
+        word_at w s rest =
+            if bytes_eq w (codes "not") then not_at rest
+            else if bytes_eq w (codes "nil") then Ok (literal literals.Nil, rest)
+            else if bytes_eq w (codes "true") then Ok (literal (literals.Bool true), rest)
+            else if bytes_eq w (codes "false") then Ok (literal (literals.Bool false), rest)
+            else if bytes_eq w (codes "IsRootSpan") then root_span_at rest
+            else if bytes_eq w (codes "IsMatch") then match_at rest
+            else if bytes_eq w (codes "Substring") then substring_at rest
+            else if bytes_eq w (codes "ConvertCase") then cased_at rest
+            else if bytes_eq w (codes "Concat") then concat_at values rest
+            else named_at w s rest
 
-      -- a piece, with which the bytes `s` begin, and `rest` is left
-      abbrev pub by_piece : Piece → (s rest : List ℕ) → Read (Term × List ℕ)
-      by_piece (word w) s rest = word_at w s rest
-      by_piece (sign c) s rest = if c == 40 then inner_at rest else Err (fault_at faults.NoValueHere s)
-      by_piece p s rest = literal_at p s >>= λ l. Ok (literal l, rest)
+        -- a piece, with which the bytes `s` begin, and `rest` is left
+        abbrev pub by_piece : Piece → (s rest : List ℕ) → Read (Term × List ℕ)
+        by_piece (word w) s rest = word_at w s rest
+        by_piece (sign c) s rest = if c == 40 then inner_at rest else Err (fault_at faults.NoValueHere s)
+        by_piece p s rest = literal_at p s >>= λ l. Ok (literal l, rest)
 
-      -- an operand, and what is left
-      unfoldable pub operand : List ℕ → Read (Term × List ℕ)
-      operand s = next_at s >>= λ p. by_piece p.0 s p.1
+        -- an operand, and what is left
+        unfoldable pub operand : List ℕ → Read (Term × List ℕ)
+        operand s = next_at s >>= λ p. by_piece p.0 s p.1
 
   -- `more` goes on with an operator's operand of this precedence, and with what follows
   abbrev pub by_operator : {A : Type 0} → Option Binary → (least : ℕ) → (Binary → Read A) → Read A → Read A
@@ -237,7 +287,7 @@ module _ (behind : ℕ) where
     -- an expression whose operators bind at least so tight, and what is left
     pub expression : Context → (levels : ℕ) → (least : ℕ) → List ℕ → Read (Term × List ℕ)
     expression context zero least s = Err (fault_at faults.TooDeep s)
-    expression context (suc n) least s = operand (expression context n) n context s >>= λ p. operators context n least p.0 p.1
+    expression context (suc n) least s = operand (expression context n) n context (values context n) s >>= λ p. operators context n least p.0 p.1
 
     -- what operators behind a term make of it, from left to right
     pub operators : Context → (levels : ℕ) → (least : ℕ) → Term → List ℕ → Read (Term × List ℕ)
@@ -247,6 +297,13 @@ module _ (behind : ℕ) where
         by_operator (operator_of p.0) least
         (λ b. expression context n (precedence b + 1) p.1 >>= λ q. joined b left q.0 s >>= λ both. operators context n least both q.1)
         (Ok (left, s))
+
+    -- what `Concat` makes of the values that the bytes begin with, its delimiter, and what is left behind its call
+    pub values : Context → (levels : ℕ) → List ℕ → Read (Term × List ℕ × List ℕ)
+    values context zero s = Err (fault_at faults.TooDeep s)
+    values context (suc n) s =
+        argument_at (expression context n) s >>= λ p. next_at p.1 >>= λ q.
+        behind_value p.0 q.0 p.1 q.1 (values context n q.1)
 
 -- the condition on a span, or on an event, that a text is, or its first fault
 unfoldable pub condition_of : Context → List ℕ → Read Term

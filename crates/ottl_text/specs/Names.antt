@@ -4,6 +4,8 @@ use Rattle.ottl_text.specs.declared.expression.Context.{Context}
 use Rattle.ottl_text.specs.declared.expression.Context.TheVariants as contexts
 use Rattle.ottl_text.specs.declared.expression.Root.{Root}
 use Rattle.ottl_text.specs.declared.expression.Root.TheVariants as roots
+use Rattle.ottl_text.specs.declared.expression.Case.{Case}
+use Rattle.ottl_text.specs.declared.expression.Case.TheVariants as cases
 use Rattle.ottl_text.specs.declared.expression.Unary.{Unary}
 use Rattle.ottl_text.specs.declared.expression.Unary.TheVariants as one
 use Rattle.ottl_text.specs.declared.expression.Binary.{Binary}
@@ -45,6 +47,13 @@ unfoldable pub binary_of : List ℕ → Option Binary
 binary_of w =
     if bytes_eq w (codes "HasPrefix") then Some two.HasPrefix
     else if bytes_eq w (codes "HasSuffix") then Some two.HasSuffix
+    else None
+
+-- the cases that `ConvertCase` takes
+unfoldable pub case_named : List ℕ → Option Case
+case_named w =
+    if bytes_eq w (codes "lower") then Some cases.Lower
+    else if bytes_eq w (codes "upper") then Some cases.Upper
     else None
 
 -- paths of the span to ids, times and counts

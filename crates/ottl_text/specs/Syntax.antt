@@ -4,13 +4,15 @@ use Rattle.ottl_text.specs.declared.expression.Literal.{Literal}
 use Rattle.ottl_text.specs.declared.expression.Path.{Path}
 use Rattle.ottl_text.specs.declared.expression.Unary.{Unary}
 use Rattle.ottl_text.specs.declared.expression.Unary.TheVariants.{Not}
+use Rattle.ottl_text.specs.declared.expression.Case.{Case}
 use Rattle.ottl_text.specs.declared.expression.Binary.{Binary}
 use Rattle.ottl_text.specs.declared.expression.Binary.TheVariants as two
 use Rattle.ottl_text.specs.declared.expression.Expression.{Expression}
 use Rattle.ottl_text.specs.declared.expression.Expression.TheVariants as declared_as
 use Rattle.ottl_text.specs.declared.expression.Literal.TheVariants as literals
 
--- a literal, a path, `IsRootSpan()`, what is made of one or two, `IsMatch` with its regular expression, `Substring`
+-- a literal, a path, `IsRootSpan()`, what is made of one or two, `IsMatch` with its regular expression, `Substring`,
+-- `ConvertCase`, and of `Concat` the first text, the delimiter and the others
 pub data Term : Type 0 where
   literal : Literal → Term
   path : Path → Term
@@ -19,6 +21,8 @@ pub data Term : Type 0 where
   binary : Binary → Term → Term → Term
   is_match : Term → (pattern : List ℕ) → Term
   substring : (text start size : Term) → Term
+  cased : Case → Term → Term
+  concat : (first : Term) → (delimiter : List ℕ) → (others : Term) → Term
 
 -- the tree that an expression is
 abbrev pub term_of : Expression → Term
@@ -29,6 +33,8 @@ term_of (declared_as.Unary' u p e) = unary u (term_of e)
 term_of (declared_as.Binary' b p x q y) = binary b (term_of x) (term_of y)
 term_of (declared_as.IsMatch' p e pattern) = is_match (term_of e) pattern
 term_of (declared_as.Substring' p x q y r z) = substring (term_of x) (term_of y) (term_of z)
+term_of (declared_as.Cased' c p e) = cased c (term_of e)
+term_of (declared_as.Concat' p x delimiter q y) = concat (term_of x) delimiter (term_of y)
 
 abbrev pub is_truth : Literal → Bool
 is_truth (literals.Bool b) = true
@@ -71,6 +77,8 @@ is_condition (unary u t) = true
 is_condition (binary b x y) = not (is_arithmetic b)
 is_condition (is_match t pattern) = true
 is_condition (substring x y z) = true
+is_condition (cased c t) = true
+is_condition (concat x delimiter y) = true
 
 -- what may be compared, and given to a function
 abbrev pub is_value : Term → Bool
@@ -81,6 +89,8 @@ is_value (unary u t) = not (is_not u)
 is_value (binary b x y) = not (is_connective b)
 is_value (is_match t pattern) = true
 is_value (substring x y z) = true
+is_value (cased c t) = true
+is_value (concat x delimiter y) = true
 
 -- what may be added, subtracted, multiplied and divided: what is written is a number, what is found may be one
 abbrev pub is_number : Term → Bool

@@ -105,6 +105,15 @@ pub enum Unary {
     /// `String`.
     Text,
     Duration,
+    /// The text that a value has among those of `Concat`.
+    Like,
+}
+
+/// The case of letters.
+#[derive(Clone, Copy, PartialEq, Eq)]
+pub enum Case {
+    Lower,
+    Upper,
 }
 
 /// What is made of two values.
@@ -139,4 +148,8 @@ pub enum Expression {
     IsMatch(Box<Expression>, Text),
     /// `Substring(.., .., ..)`: of a text so many bytes from a place on.
     Substring(Box<Expression>, Box<Expression>, Box<Expression>),
+    /// `ConvertCase(.., "lower")`.
+    Cased(Case, Box<Expression>),
+    /// Of `Concat([.., ..], "..")` the first text, the delimiter, and the others with delimiters between them.
+    Concat(Box<Expression>, Text, Box<Expression>),
 }

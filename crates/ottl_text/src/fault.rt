@@ -31,8 +31,14 @@ pub enum FaultKind {
     NoComma,
     /// Here a text in quotes would have to stand: a regular expression.
     NoPattern,
+    /// Here a text in quotes would have to stand: what `Concat` puts between texts.
+    NoDelimiter,
+    /// Here `"lower"` or `"upper"` would have to stand.
+    NoCase,
     /// Here a text in quotes or a whole number would have to stand: a key.
     NoKey,
+    /// Here `[` would have to stand.
+    NoOpeningBracket,
     /// Here `]` would have to stand.
     NoClosingBracket,
     /// What stands before has no keys.
@@ -45,7 +51,7 @@ pub enum FaultKind {
     NotACondition,
     /// Here something else than a number stands where one would have to.
     NotANumber,
-    /// It nests too deep, or has too many operators in a row: more than 200.
+    /// It nests too deep, or has too many operators, or values of `Concat`, in a row: more than 200.
     TooDeep,
 }
 
@@ -78,7 +84,12 @@ impl fmt::Display for FaultKind {
             FaultKind::NoClosing => f.write_str(") is wanted"),
             FaultKind::NoComma => f.write_str(", is wanted"),
             FaultKind::NoPattern => f.write_str("a regular expression in quotes is wanted"),
+            FaultKind::NoDelimiter => f.write_str("a delimiter in quotes is wanted"),
+            FaultKind::NoCase => f.write_str(
+                "\"lower\" or \"upper\" is wanted; no other case is known here",
+            ),
             FaultKind::NoKey => f.write_str("a key in quotes or a whole number is wanted"),
+            FaultKind::NoOpeningBracket => f.write_str("[ is wanted"),
             FaultKind::NoClosingBracket => f.write_str("] is wanted"),
             FaultKind::TakesNoKeys => f.write_str("what stands before this has no keys"),
             FaultKind::GoesOn => f.write_str("the condition ends before this"),
@@ -88,7 +99,7 @@ impl fmt::Display for FaultKind {
             ),
             FaultKind::NotANumber => f.write_str("a number is wanted"),
             FaultKind::TooDeep => f.write_str(
-                "it nests more than 200 levels deep, or has more than 200 operators in a row",
+                "it nests more than 200 levels deep, or has more than 200 operators or values in a row",
             ),
         }
     }

@@ -16,12 +16,16 @@ mod kind_error;
 mod literals;
 mod names;
 mod parsing;
+mod path_reading;
 mod pieces;
 mod reading;
 mod sorts;
 mod token;
+mod trees;
 
-pub use expression::{Binary, Context, ErrorMode, Expression, Key, Literal, Path, Root, Unary};
+pub use expression::{
+    Binary, Case, Context, ErrorMode, Expression, Key, Literal, Path, Root, Unary,
+};
 pub use fault::{Fault, FaultKind, ParseError};
 pub use literals::{float_of, int_of};
 pub use parsing::parse;

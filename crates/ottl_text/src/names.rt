@@ -3,7 +3,7 @@ ghost use Rattle.std.specs.Prelude.{◌≡◌, ◌≤◌};
 ghost use Rattle.ottl_text.specs.Names as spec;
 ghost use Rattle.ottl_text.specs.Tokens.{piece_of};
 
-use crate::expression::{Binary, Context, Root, Unary};
+use crate::expression::{Binary, Case, Context, Root, Unary};
 use crate::token::Token;
 use ottl_lengths::{behind, front};
 
@@ -76,6 +76,20 @@ pub(crate) fn binary_of(word: &[u8]) -> Option<Binary>
         Some(Binary::HasPrefix)
     } else if word == b"HasSuffix".as_slice() {
         Some(Binary::HasSuffix)
+    } else {
+        None
+    }
+}
+
+/// A case that `ConvertCase` takes.
+#[tactic(auto, unfolding(crate::specs::Names::case_named))]
+pub(crate) fn case_named(word: &[u8]) -> Option<Case>
+    ensures { result ≡ spec.case_named word.now }
+{
+    if word == b"lower".as_slice() {
+        Some(Case::Lower)
+    } else if word == b"upper".as_slice() {
+        Some(Case::Upper)
     } else {
         None
     }

@@ -2,12 +2,14 @@
 ghost use Rattle.std.specs.Prelude.{◌≡◌};
 ghost use Rattle.ottl_text.specs.Gives.{GivesAs};
 ghost use Rattle.ottl_text.specs.Grammar as spec;
+ghost use Rattle.ottl_text.specs.Syntax.{term_of};
 ghost use Rattle.ottl_text.specs.Tokens.{piece_of};
 
-use crate::expression::{Key, Literal};
+use crate::expression::{Case, Expression, Key, Literal};
 use crate::fault::{Fault, FaultKind, ParseError};
 use crate::kind_error::KindError;
 use crate::literals::{bytes_of, float_of, int_of, text_of};
+use crate::names::case_named;
 use crate::token::{Token, next};
 use otlp_types::{List, Text};
 use ottl_lengths::skip_blank;
@@ -187,4 +189,53 @@ pub(crate) fn pattern_at(
         }
         _ => Err(refused(behind, FaultKind::NoPattern, bytes)),
     }
+}
+
+/// What `ConvertCase` makes of letters, and what is left.
+#[tactic(auto, unfolding(crate::specs::Grammar::case_at))]
+pub(crate) fn case_at(behind: usize, bytes: &[u8]) -> Result<(Case, &[u8]), ParseError>
+    ensures { GivesAs (λ found. (found.0, found.1.now)) result (spec.case_at behind bytes.now) }
+{
+    let (token, rest) = next_at(behind, bytes)?;
+    match token {
+        Token::Text(written) => match case_named(written) {
+            Some(case) => Ok((case, rest)),
+            None => Err(refused(behind, FaultKind::NoCase, bytes)),
+        },
+        _ => Err(refused(behind, FaultKind::NoCase, bytes)),
+    }
+}
+
+/// What `Concat` puts between texts, and what is left behind its call.
+#[tactic(auto, unfolding(crate::specs::Grammar::delimiter_at))]
+pub(crate) fn delimiter_at(
+    alloc: Global,
+    behind: usize,
+    bytes: &[u8],
+) -> Result<(Text, &[u8]), ParseError>
+    ensures { GivesAs (λ found. (found.0, found.1.now)) result (spec.delimiter_at behind bytes.now) }
+{
+    let bytes = after_sign(behind, b',', FaultKind::NoComma, bytes)?;
+    let (token, rest) = next_at(behind, bytes)?;
+    match token {
+        Token::Text(written) => {
+            let delimiter = text_at(alloc, behind, written, bytes)?;
+            let rest = after_sign(behind, b')', FaultKind::NoClosing, rest)?;
+            Ok((delimiter, rest))
+        }
+        _ => Err(refused(behind, FaultKind::NoDelimiter, bytes)),
+    }
+}
+
+/// `Concat` of no value, behind `]`.
+#[tactic(auto, unfolding(crate::specs::Grammar::no_values_at))]
+pub(crate) fn no_values_at(
+    alloc: Global,
+    behind: usize,
+    bytes: &[u8],
+) -> Result<(Expression, &[u8]), ParseError>
+    ensures { GivesAs (λ found. (term_of found.0, found.1.now)) result (spec.no_values_at behind bytes.now) }
+{
+    let (_, rest) = delimiter_at(alloc, behind, bytes)?;
+    Ok((Expression::Literal(Literal::Text(Text::new(alloc))), rest))
 }

@@ -6,56 +6,18 @@ ghost use Rattle.ottl_text.specs.Syntax.{term_of};
 ghost use Rattle.ottl_text.specs.Syntax as syntax;
 ghost use Rattle.ottl_text.specs.Tokens.{piece_of};
 
-use crate::expression::{Binary, Context, Expression, Key, Literal, Path, Root, Unary};
+use crate::expression::{Binary, Context, Expression, Literal, Unary};
 use crate::fault::{FaultKind, ParseError};
 use crate::names::{binary_of, enumeration_of, operator_of, root_of, unary_of};
-use crate::pieces::{after_sign, is_the_sign, key_at, literal_at, next_at, pattern_at, refused};
+use crate::path_reading::path_at;
+use crate::pieces::{
+    after_sign, case_at, delimiter_at, is_the_sign, literal_at, next_at, no_values_at, pattern_at,
+    refused,
+};
 use crate::token::Token;
-use otlp_types::List;
+use crate::trees::{before, both, in_case, one, part};
+use otlp_types::Text;
 use std::alloc::Global;
-
-/// The keys behind a path, behind those that were read, at most so many.
-#[tactic(auto, unfolding(crate::specs::Grammar::keyed))]
-fn keyed(
-    alloc: Global,
-    behind: usize,
-    levels: usize,
-    mut keys: List<Key>,
-    bytes: &[u8],
-) -> Result<(List<Key>, &[u8]), ParseError>
-    ensures { GivesAs (λ found. (found.0, found.1.now)) result (spec.keyed behind levels keys bytes.now) }
-{
-    if levels == 0 {
-        return Err(refused(behind, FaultKind::TooDeep, bytes));
-    }
-    let (token, rest) = next_at(behind, bytes)?;
-    if !is_the_sign(b'[', token) {
-        return Ok((keys, bytes));
-    }
-    let (key, rest) = key_at(alloc, behind, rest)?;
-    let rest = after_sign(behind, b']', FaultKind::NoClosingBracket, rest)?;
-    keys.push(key)?;
-    keyed(alloc, behind, levels - 1, keys, rest)
-}
-
-/// A path that begins so, behind its name.
-#[tactic(auto, unfolding(crate::specs::Grammar::path_at))]
-fn path_at(
-    alloc: Global,
-    behind: usize,
-    levels: usize,
-    root: Root,
-    bytes: &[u8],
-) -> Result<(Expression, &[u8]), ParseError>
-    ensures { GivesAs (λ found. (term_of found.0, found.1.now)) result (spec.path_at behind levels root bytes.now) }
-{
-    let (keys, rest) = keyed(alloc, behind, levels, List::new(alloc), bytes)?;
-    if root.takes_keys() || keys.len() == 0 {
-        Ok((Expression::Path(Path { root, keys }), rest))
-    } else {
-        Err(refused(behind, FaultKind::TakesNoKeys, bytes))
-    }
-}
 
 /// `IsRootSpan`, behind its name.
 #[tactic(auto, unfolding(crate::specs::Grammar::root_span_at))]
@@ -84,27 +46,6 @@ fn joined(
     } else {
         Err(refused(behind, binary.misplaced(), bytes))
     }
-}
-
-/// What is made of two expressions.
-fn both(
-    alloc: Global,
-    binary: Binary,
-    left: Expression,
-    right: Expression,
-) -> Result<Expression, ParseError>
-    ensures { GivesAs term_of result (Ok (syntax.binary binary (term_of left) (term_of right))) }
-{
-    let left = Box::new(alloc, left)?;
-    let right = Box::new(alloc, right)?;
-    Ok(Expression::Binary(binary, left, right))
-}
-
-/// What is made of one expression.
-fn one(alloc: Global, unary: Unary, of: Expression) -> Result<Expression, ParseError>
-    ensures { GivesAs term_of result (Ok (syntax.unary unary (term_of of))) }
-{
-    Ok(Expression::Unary(unary, Box::new(alloc, of)?))
 }
 
 /// An expression whose operators bind at least so tight, and what is left.
@@ -166,7 +107,7 @@ fn operand(
     levels: usize,
     bytes: &[u8],
 ) -> Result<(Expression, &[u8]), ParseError>
-    ensures { GivesAs (λ found. (term_of found.0, found.1.now)) result (spec.operand behind (spec.expression behind context levels) levels context bytes.now) }
+    ensures { GivesAs (λ found. (term_of found.0, found.1.now)) result (spec.operand behind (spec.expression behind context levels) levels context (spec.values behind context levels) bytes.now) }
 {
     let (token, rest) = next_at(behind, bytes)?;
     match token {
@@ -214,7 +155,7 @@ fn word_at<'a>(
     bytes: &[u8],
     rest: &'a [u8],
 ) -> Result<(Expression, &'a [u8]), ParseError>
-    ensures { GivesAs (λ found. (term_of found.0, found.1.now)) result (spec.word_at behind (spec.expression behind context levels) levels context word.now bytes.now rest.now) }
+    ensures { GivesAs (λ found. (term_of found.0, found.1.now)) result (spec.word_at behind (spec.expression behind context levels) levels context (spec.values behind context levels) word.now bytes.now rest.now) }
 {
     if word == b"not".as_slice() {
         not_at(alloc, behind, context, levels, rest)
@@ -230,6 +171,10 @@ fn word_at<'a>(
         match_at(alloc, behind, context, levels, rest)
     } else if word == b"Substring".as_slice() {
         substring_at(alloc, behind, context, levels, rest)
+    } else if word == b"ConvertCase".as_slice() {
+        cased_at(alloc, behind, context, levels, rest)
+    } else if word == b"Concat".as_slice() {
+        concat_at(alloc, behind, context, levels, rest)
     } else {
         named_at(alloc, behind, context, levels, word, bytes, rest)
     }
@@ -390,17 +335,75 @@ fn substring_at(
     Ok((call, rest))
 }
 
-/// A part of a text.
-fn part(
+/// `ConvertCase`, behind its name.
+#[cycle(expression)]
+#[tactic(auto, unfolding(crate::specs::Grammar::cased_at))]
+fn cased_at(
     alloc: Global,
-    text: Expression,
-    start: Expression,
-    size: Expression,
-) -> Result<Expression, ParseError>
-    ensures { GivesAs term_of result (Ok (syntax.substring (term_of text) (term_of start) (term_of size))) }
+    behind: usize,
+    context: Context,
+    levels: usize,
+    bytes: &[u8],
+) -> Result<(Expression, &[u8]), ParseError>
+    ensures { GivesAs (λ found. (term_of found.0, found.1.now)) result (spec.cased_at behind (spec.expression behind context levels) bytes.now) }
 {
-    let text = Box::new(alloc, text)?;
-    let start = Box::new(alloc, start)?;
-    let size = Box::new(alloc, size)?;
-    Ok(Expression::Substring(text, start, size))
+    let rest = after_sign(behind, b'(', FaultKind::NoOpening, bytes)?;
+    let (text, rest) = argument_at(alloc, behind, context, levels, rest)?;
+    let rest = after_sign(behind, b',', FaultKind::NoComma, rest)?;
+    let (case, rest) = case_at(behind, rest)?;
+    let rest = after_sign(behind, b')', FaultKind::NoClosing, rest)?;
+    let call = in_case(alloc, case, text)?;
+    Ok((call, rest))
+}
+
+/// `Concat`, behind its name.
+#[cycle(expression)]
+#[tactic(auto, unfolding(crate::specs::Grammar::concat_at))]
+fn concat_at(
+    alloc: Global,
+    behind: usize,
+    context: Context,
+    levels: usize,
+    bytes: &[u8],
+) -> Result<(Expression, &[u8]), ParseError>
+    ensures { GivesAs (λ found. (term_of found.0, found.1.now)) result (spec.concat_at behind (spec.values behind context levels) bytes.now) }
+{
+    let rest = after_sign(behind, b'(', FaultKind::NoOpening, bytes)?;
+    let values = after_sign(behind, b'[', FaultKind::NoOpeningBracket, rest)?;
+    let (token, rest) = next_at(behind, values)?;
+    if is_the_sign(b']', token) {
+        return no_values_at(alloc, behind, rest);
+    }
+    let (joined, _, rest) = values_at(alloc, behind, context, levels, values)?;
+    Ok((joined, rest))
+}
+
+/// What `Concat` makes of the values that the bytes begin with, its delimiter, and what is left behind its call.
+#[cycle(expression)]
+#[tactic(auto, unfolding(crate::specs::Grammar::values))]
+fn values_at(
+    alloc: Global,
+    behind: usize,
+    context: Context,
+    levels: usize,
+    bytes: &[u8],
+) -> Result<(Expression, Text, &[u8]), ParseError>
+    ensures { GivesAs (λ found. (term_of found.0, found.1, found.2.now)) result (spec.values behind context levels bytes.now) }
+{
+    if levels == 0 {
+        return Err(refused(behind, FaultKind::TooDeep, bytes));
+    }
+    let (value, behind_value) = argument_at(alloc, behind, context, levels - 1, bytes)?;
+    let (token, rest) = next_at(behind, behind_value)?;
+    if is_the_sign(b',', token) {
+        let (others, delimiter, rest) = values_at(alloc, behind, context, levels - 1, rest)?;
+        let joined = before(alloc, value, &delimiter, others)?;
+        Ok((joined, delimiter, rest))
+    } else if is_the_sign(b']', token) {
+        let (delimiter, rest) = delimiter_at(alloc, behind, rest)?;
+        let last = one(alloc, Unary::Like, value)?;
+        Ok((last, delimiter, rest))
+    } else {
+        Err(refused(behind, FaultKind::NoClosingBracket, behind_value))
+    }
 }

@@ -36,3 +36,12 @@ decreases-match_at l = 8 * l.levels + 2
 
 abbrev pub decreases-substring_at : goal.decreases-substring_at
 decreases-substring_at l = 8 * l.levels + 2
+
+abbrev pub decreases-cased_at : goal.decreases-cased_at
+decreases-cased_at l = 8 * l.levels + 2
+
+abbrev pub decreases-concat_at : goal.decreases-concat_at
+decreases-concat_at l = 8 * l.levels + 2
+
+abbrev pub decreases-values_at : goal.decreases-values_at
+decreases-values_at l = 8 * l.levels + 1

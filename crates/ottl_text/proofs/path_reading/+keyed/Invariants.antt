@@ -1,4 +1,4 @@
-use Rattle.ottl_text.proofs.reading.+keyed.Given as goal
+use Rattle.ottl_text.proofs.path_reading.+keyed.Given as goal
 
 abbrev pub decreases-keyed : goal.decreases-keyed
 decreases-keyed l = l.levels
