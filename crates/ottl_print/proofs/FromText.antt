@@ -13,18 +13,22 @@ use Rattle.ottl_text.specs.declared.expression.Unary.{Unary}
 use Rattle.ottl_text.specs.declared.expression.Unary.TheVariants as one
 use Rattle.ottl_text.specs.declared.expression.Binary.{Binary}
 use Rattle.ottl_text.specs.declared.expression.Binary.TheVariants as two
+use Rattle.ottl_text.specs.declared.expression.Case.{Case}
+use Rattle.std.specs.Str.{is_utf8, chars}
+use lib.Utf8.{encode}
+use Rattle.ottl_text.specs.Literals.{in_utf8}
 use Rattle.ottl_text.specs.declared.fault.FaultKind.{FaultKind}
 use Rattle.ottl_text.specs.declared.fault.FaultKind.TheVariants as faults
 use Rattle.ottl_text.specs.Gives.{Read, ◌>>=◌}
 use Rattle.ottl_text.specs.Names.{operator_of, operator_of_word, precedence, takes_keys, unary_of, binary_of, enumeration_of, root_of}
-use Rattle.ottl_text.specs.Syntax.{Term, literal, path, is_root_span, unary, binary, is_match, substring, is_condition, is_value, is_not, suits}
+use Rattle.ottl_text.specs.Syntax.{Term, literal, path, is_root_span, unary, binary, is_match, substring, cased, concat, is_condition, is_value, is_not, suits}
 use Rattle.ottl_text.specs.Tokens.{Piece, end, word, int, float, bytes, text, sign, operator, long_operator, short_operator, by_long, by_short, is_sign, marked, quoted, unnumbered, piece_at, next_piece}
-use Rattle.ottl_text.specs.Grammar.{next_at, after_sign, joined, fault_at, text_at, bytes_at, int_at, float_at, keyed, path_at, pattern_of, pattern_at, root_span_at, literal_at, argument_at, unary_at, binary_at, match_at, substring_at, not_at, inner_at, by_root, by_enumeration, by_binary, by_unary, named_at, word_at, by_piece, operand, by_operator, expression, operators}
+use Rattle.ottl_text.specs.Grammar.{next_at, after_sign, joined, fault_at, text_at, bytes_at, int_at, float_at, keyed, path_at, pattern_of, pattern_at, root_span_at, literal_at, argument_at, unary_at, binary_at, match_at, substring_at, not_at, inner_at, by_root, by_enumeration, by_binary, by_unary, named_at, word_at, by_piece, operand, by_operator, case_of, case_at, or_no_case, delimiter_of, delimiter_at, no_values_at, behind_value, is_the_sign, cased_at, concat_at, values, expression, operators}
 use Rattle.ottl_print.specs.Names.{is_operator}
-use Rattle.ottl_print.specs.Printing.{tightness, is_row, argument, Size, levels_at, joined_size, has_parentheses, called_size, size}
+use Rattle.ottl_print.specs.Printing.{tightness, is_row, argument, is_like, operand_of_one, Size, levels_at, joined_size, has_parentheses, called_size, size}
 use Rattle.ottl_print.proofs.Literals.{IsFloat, split}
 use Rattle.ottl_print.proofs.Steps.{Begins}
-use Rattle.ottl_print.proofs.ReadsBack.{FineLiteral, suits_one, Fine, precedence_some, from_not_below, is_not_only, function_suits, no_binary}
+use Rattle.ottl_print.proofs.ReadsBack.{FineLiteral, suits_one, Fine, FineValue, FineValues, precedence_some, from_not_below, is_not_only, function_suits, no_binary}
 use Rattle.ottl_print.proofs.Parts.{no_ok, bind_ok, if_ok, either_ok, same_ok, same_some, no_some, case_some, int_fits, text_utf8, bytes_fine, next_began, text_began, bytes_began, int_began, float_began, keyed_fine, enumeration_fits, root_in_context}
 use Rattle.ottl_print.proofs.Floats.{float_is}
 
@@ -146,7 +150,7 @@ operator_fine (sign d) b f e = none_operator b e
 
 -- ---- names of functions
 abbrev OfOne : Unary → Type 0
-OfOne u = is_not u ≡ false
+OfOne u = ◌≡◌ {A = Bool × Bool} (is_not u, is_like u) (false, false)
 
 unary_named : (w : List ℕ) (value : Unary) → unary_of w ≡ Some value → OfOne value
 unfolding unary_of
@@ -187,6 +191,8 @@ not_row_alone sparing (unary u x) e = refl
 not_row_alone sparing (binary b x y) e = rw e refl
 not_row_alone sparing (is_match x p) e = refl
 not_row_alone sparing (substring x y z) e = refl
+not_row_alone sparing (cased k x) e = refl
+not_row_alone sparing (concat x d y) e = refl
 
 size_called : (b : Binary) (x y : Term) → is_operator b ≡ false → size true (binary b x y) ≡ called_size (levels_at argument x (size true x).levels) (levels_at argument y (size true y).levels)
 size_called b x y e = rw e refl
@@ -207,6 +213,8 @@ value_tight (unary u x) e v = go (is_not u) v
 value_tight (binary b x y) e v = rw e refl
 value_tight (is_match x p) e v = refl
 value_tight (substring x y z) e v = refl
+value_tight (cased k x) e v = refl
+value_tight (concat x d y) e v = refl
 
 alone_tight : (t : Term) → is_row t ≡ false → 3 ≤ tightness t
 alone_tight (literal l) e = omega arith
@@ -220,6 +228,8 @@ alone_tight (unary u x) e = go (is_not u)
 alone_tight (binary b x y) e = rw e (omega arith)
 alone_tight (is_match x p) e = omega arith
 alone_tight (substring x y z) e = omega arith
+alone_tight (cased k x) e = omega arith
+alone_tight (concat x d y) e = omega arith
 
 number_value : (t : Term) → Rattle.ottl_text.specs.Syntax.is_number t ≡ true → is_value t ≡ true
 number_value (literal l) e = refl
@@ -229,6 +239,8 @@ number_value (unary u x) e = e
 number_value (binary b x y) e = e
 number_value (is_match x p) e = e
 number_value (substring x y z) e = e
+number_value (cased k x) e = e
+number_value (concat x d y) e = e
 
 -- an operand that an operator takes, and that is no row, binds tighter
 suited_value : (b : Binary) (t : Term) → 3 ≤ precedence b → suits b t ≡ true → is_value t ≡ true
@@ -345,14 +357,21 @@ module _ (behind : ℕ) (c : Context) where
       let k = bind_ok (after_sign behind 41 faults.NoClosing h.0) _ q h.2 in
       same_good n is_root_span k.0 q k.2 (tt, inl (refl, omega (arith, some)))
 
-  unary_good : (n : ℕ) → ReadsWell n → (u : Unary) (s : List ℕ) (q : Term × List ℕ) → is_not u ≡ false → unary_at behind (reader n) u s ≡ Ok q → Good n q.0
+  unary_few : (u : Unary) (x : Term) (n : ℕ) → is_not u ≡ false → is_like u ≡ false → levels_at argument x (L x) ≤ n → L (unary u x) ≤ suc n
+  unary_few u x n is plain few =
+      let at : operand_of_one u ≡ argument = rw is refl in
+      let one_more : ◌≡◌ {A = ℕ} (cond (is_like u) 2 1) 1 = rw plain refl in
+      let same : levels_at (operand_of_one u) x (L x) ≡ levels_at argument x (L x) = ap (λ k. levels_at k x (L x)) at in
+      omega (arith, one_more, same, few)
+
+  unary_good : (n : ℕ) → ReadsWell n → (u : Unary) (s : List ℕ) (q : Term × List ℕ) → is_not u ≡ false → is_like u ≡ false → unary_at behind (reader n) u s ≡ Ok q → Good n q.0
   unfolding unary_at
-  unary_good n well u s q is e =
+  unary_good n well u s q is plain e =
       let h = bind_ok (after_sign behind 40 faults.NoOpening s) _ q e in
       let a = bind_ok (argument_at behind (reader n) h.0) _ q h.2 in
       let k = bind_ok (after_sign behind 41 faults.NoClosing a.0.1) _ q a.2 in
       let g = argument_got n well h.0 a.0 a.1 in
-      same_good n (unary u a.0.0) k.0 q k.2 (((rw is g.1), g.0), inl (refl, rw is (omega (arith, g.2))))
+      same_good n (unary u a.0.0) k.0 q k.2 (((rw is g.1), g.0), inl (refl, unary_few u a.0.0 n is plain g.2))
 
   binary_good : (n : ℕ) → ReadsWell n → (b : Binary) (s : List ℕ) (q : Term × List ℕ) → is_operator b ≡ false → binary_at behind (reader n) b s ≡ Ok q → Good n q.0
   unfolding binary_at
@@ -465,42 +484,145 @@ module _ (behind : ℕ) (c : Context) where
       of_binary None is e = of_enumeration (enumeration_of w) refl e
 
       of_unary : (o : Option Unary) → unary_of w ≡ o → by_unary behind (reader n) n c o w s rest ≡ Ok q → Good n q.0
-      of_unary (Some u) is e = unary_good n well u rest q (unary_named w u is) e
+      of_unary (Some u) is e = (let plain = unary_named w u is in unary_good n well u rest q (ap (λ p. p.0) plain) (ap (λ p. p.1) plain) e)
       of_unary None is e = of_binary (binary_of w) refl e
 
-  word_good : (n : ℕ) → ReadsWell n → 0 < n → (w s rest : List ℕ) (q : Term × List ℕ) → word_at behind (reader n) n c w s rest ≡ Ok q → Good n q.0
+  -- ---- `ConvertCase` and `Concat`
+  cased_good : (n : ℕ) → ReadsWell n → (s : List ℕ) (q : Term × List ℕ) → cased_at behind (reader n) s ≡ Ok q → Good n q.0
+  unfolding cased_at
+  cased_good n well s q e =
+      let h = bind_ok (after_sign behind 40 faults.NoOpening s) _ q e in
+      let x = bind_ok (argument_at behind (reader n) h.0) _ q h.2 in
+      let k = bind_ok (after_sign behind 44 faults.NoComma x.0.1) _ q x.2 in
+      let p = bind_ok (case_at behind k.0) _ q k.2 in
+      let j = bind_ok (after_sign behind 41 faults.NoClosing p.0.1) _ q p.2 in
+      let f = argument_got n well h.0 x.0 x.1 in
+      same_good n (cased p.0.0 x.0.0) j.0 q j.2 ((f.1, f.0), inl (refl, omega (arith, f.2)))
+
+  -- what the values of `Concat` give that had n levels
+  abbrev GoodValues : ℕ → Term × List ℕ × List ℕ → Type 0
+  GoodValues n q = FineValues c q.1 q.0 × (in_utf8 q.1 ≡ Ok q.1) × (L q.0 ≤ suc n)
+
+  abbrev ListsWell : ℕ → Type 0
+  ListsWell n = (s : List ℕ) (q : Term × List ℕ × List ℕ) → values behind c n s ≡ Ok q → GoodValues n q
+
+  delimiter_utf8 : (s : List ℕ) (q : List ℕ × List ℕ) → delimiter_at behind s ≡ Ok q → in_utf8 q.0 ≡ Ok q.0
+  unfolding delimiter_at
+  delimiter_utf8 s q e =
+      let h = bind_ok (after_sign behind 44 faults.NoComma s) _ q e in
+      let g = bind_ok (next_at behind h.0) _ q h.2 in
+      of_piece g.0.0 h.0 g.0.1 q g.2
+    where
+      of_piece : (p : Piece) (s rest : List ℕ) (q : List ℕ × List ℕ) → delimiter_of behind p s rest ≡ Ok q → in_utf8 q.0 ≡ Ok q.0
+      of_piece (text d) s rest q e =
+          let h = bind_ok (text_at behind d s) _ q e in
+          let g = bind_ok (after_sign behind 41 faults.NoClosing rest) _ q h.2 in
+          subst (λ q. in_utf8 q.0 ≡ Ok q.0) (same_ok (h.0, g.0) q g.2) (text_utf8 d h.0 (text_began behind d s h.0 h.1))
+      of_piece end s rest q e = no_ok _ q e
+      of_piece (bytes d) s rest q e = no_ok _ q e
+      of_piece (float d) s rest q e = no_ok _ q e
+      of_piece (int d) s rest q e = no_ok _ q e
+      of_piece (word d) s rest q e = no_ok _ q e
+      of_piece (operator d) s rest q e = no_ok _ q e
+      of_piece (sign d) s rest q e = no_ok _ q e
+
+  lists_well : (n : ℕ) → ReadsWell n → ListsWell n → ListsWell (suc n)
+  unfolding values
+  lists_well n well lists s q e =
+      let h = bind_ok (argument_at behind (reader n) s) _ q e in
+      let g = argument_got n well s h.0 h.1 in
+      let p = bind_ok (next_at behind h.0.1) _ q h.2 in
+      let t = h.0.0 in
+      let more : Read (Term × List ℕ × List ℕ) = values behind c n p.0.1 >>= λ m. Ok (concat (unary one.Like t) m.1 m.0, m.1, m.2) in
+      let last : Read (Term × List ℕ × List ℕ) = delimiter_at behind p.0.1 >>= λ d. Ok (unary one.Like t, d.0, d.1) in
+      let fault : Read (Term × List ℕ × List ℕ) = Err (fault_at behind faults.NoClosingBracket h.0.1) in
+      case_ok (GoodValues (suc n) q) (is_the_sign 44 p.0.0) more (if is_the_sign 93 p.0.0 then last else fault) (Ok q) p.2
+      (λ e. let m = bind_ok (values behind c n p.0.1) _ q e in
+      let v = lists p.0.1 m.0 m.1 in
+      subst (GoodValues (suc n)) (same_ok (concat (unary one.Like t) m.0.1 m.0.0, m.0.1, m.0.2) q m.2) ((refl, (refl, g.1, g.0), v.0), v.1, omega (arith, g.2, v.2)))
+      (λ e. let w = if_ok (is_the_sign 93 p.0.0) last _ q e in
+      let d = bind_ok (delimiter_at behind p.0.1) _ q w.1 in
+      subst (GoodValues (suc n)) (same_ok (unary one.Like t, d.0.0, d.0.1) q d.2) ((refl, g.1, g.0), delimiter_utf8 p.0.1 d.0 d.1, omega (arith, g.2)))
+
+  chain_fine : (d : List ℕ) (t : Term) → in_utf8 d ≡ Ok d → FineValues c d t → Fine c t
+  chain_fine d (unary u x) utf8 f = (ap (λ v. suits_one v x) f.0 ∙ f.1, f.2)
+  chain_fine d (concat x e y) utf8 f = (subst (λ e. in_utf8 e ≡ Ok e) (sym f.0) utf8, f.1, subst (λ e. FineValues c e y) (sym f.0) f.2)
+  chain_fine d (literal l) utf8 f = absurd f
+  chain_fine d (path p) utf8 f = absurd f
+  chain_fine d is_root_span utf8 f = absurd f
+  chain_fine d (binary b x z) utf8 f = absurd f
+  chain_fine d (is_match x p) utf8 f = absurd f
+  chain_fine d (substring x w z) utf8 f = absurd f
+  chain_fine d (cased k x) utf8 f = absurd f
+
+  chain_no_row : (d : List ℕ) (t : Term) → FineValues c d t → is_row t ≡ false
+  chain_no_row d (unary u x) f = refl
+  chain_no_row d (concat x e y) f = refl
+  chain_no_row d (literal l) f = absurd f
+  chain_no_row d (path p) f = absurd f
+  chain_no_row d is_root_span f = absurd f
+  chain_no_row d (binary b x z) f = absurd f
+  chain_no_row d (is_match x p) f = absurd f
+  chain_no_row d (substring x w z) f = absurd f
+  chain_no_row d (cased k x) f = absurd f
+
+  empty_utf8 : in_utf8 [] ≡ Ok []
+  unfolding is_utf8 chars encode
+  empty_utf8 = refl
+
+  no_values_good : (n : ℕ) → 0 < n → (s : List ℕ) (q : Term × List ℕ) → no_values_at behind s ≡ Ok q → Good n q.0
+  unfolding no_values_at
+  no_values_good n some s q e = let h = bind_ok (delimiter_at behind s) _ q e in literal_good n (literals.Text []) h.0.1 q some empty_utf8 h.2
+
+  concat_good : (n : ℕ) → 0 < n → ListsWell n → (s : List ℕ) (q : Term × List ℕ) → concat_at behind (values behind c n) s ≡ Ok q → Good n q.0
+  unfolding concat_at
+  concat_good n some lists s q e =
+      let h = bind_ok (after_sign behind 40 faults.NoOpening s) _ q e in
+      let k = bind_ok (after_sign behind 91 faults.NoOpeningBracket h.0) _ q h.2 in
+      let p = bind_ok (next_at behind k.0) _ q k.2 in
+      let listed : Read (Term × List ℕ) = values behind c n k.0 >>= λ m. Ok (m.0, m.2) in
+      case_ok (Good n q.0) (is_the_sign 93 p.0.0) (no_values_at behind p.0.1) listed (Ok q) p.2 (λ e. no_values_good n some p.0.1 q e)
+      (λ e. let m = bind_ok (values behind c n k.0) _ q e in
+      let v = lists k.0 m.0 m.1 in
+      same_good n m.0.0 m.0.2 q m.2 (chain_fine m.0.1 m.0.0 v.1 v.0, inl (chain_no_row m.0.1 m.0.0 v.0, v.2)))
+
+  word_good : (n : ℕ) → ReadsWell n → 0 < n → ListsWell n → (w s rest : List ℕ) (q : Term × List ℕ) → word_at behind (reader n) n c (values behind c n) w s rest ≡ Ok q → Good n q.0
   unfolding word_at
-  word_good n well some w s rest q e =
-      case_ok (Good n q.0) (bytes_eq w (codes "not")) (not_at behind (reader n) rest) (if bytes_eq w (codes "nil") then Ok (literal literals.Nil, rest) else (if bytes_eq w (codes "true") then Ok (literal (literals.Bool true), rest) else (if bytes_eq w (codes "false") then Ok (literal (literals.Bool false), rest) else (if bytes_eq w (codes "IsRootSpan") then root_span_at behind rest else (if bytes_eq w (codes "IsMatch") then match_at behind (reader n) rest else (if bytes_eq w (codes "Substring") then substring_at behind (reader n) rest else (named_at behind (reader n) n c w s rest))))))) (Ok q) e
+  word_good n well some lists w s rest q e =
+      case_ok (Good n q.0) (bytes_eq w (codes "not")) (not_at behind (reader n) rest) (if bytes_eq w (codes "nil") then Ok (literal literals.Nil, rest) else (if bytes_eq w (codes "true") then Ok (literal (literals.Bool true), rest) else (if bytes_eq w (codes "false") then Ok (literal (literals.Bool false), rest) else (if bytes_eq w (codes "IsRootSpan") then root_span_at behind rest else (if bytes_eq w (codes "IsMatch") then match_at behind (reader n) rest else (if bytes_eq w (codes "Substring") then substring_at behind (reader n) rest else (if bytes_eq w (codes "ConvertCase") then cased_at behind (reader n) rest else (if bytes_eq w (codes "Concat") then concat_at behind (values behind c n) rest else (named_at behind (reader n) n c w s rest))))))))) (Ok q) e
       (λ e. not_good n well rest q e)
-      (λ e. case_ok (Good n q.0) (bytes_eq w (codes "nil")) (Ok (literal literals.Nil, rest)) (if bytes_eq w (codes "true") then Ok (literal (literals.Bool true), rest) else (if bytes_eq w (codes "false") then Ok (literal (literals.Bool false), rest) else (if bytes_eq w (codes "IsRootSpan") then root_span_at behind rest else (if bytes_eq w (codes "IsMatch") then match_at behind (reader n) rest else (if bytes_eq w (codes "Substring") then substring_at behind (reader n) rest else (named_at behind (reader n) n c w s rest)))))) (Ok q) e
+      (λ e. case_ok (Good n q.0) (bytes_eq w (codes "nil")) (Ok (literal literals.Nil, rest)) (if bytes_eq w (codes "true") then Ok (literal (literals.Bool true), rest) else (if bytes_eq w (codes "false") then Ok (literal (literals.Bool false), rest) else (if bytes_eq w (codes "IsRootSpan") then root_span_at behind rest else (if bytes_eq w (codes "IsMatch") then match_at behind (reader n) rest else (if bytes_eq w (codes "Substring") then substring_at behind (reader n) rest else (if bytes_eq w (codes "ConvertCase") then cased_at behind (reader n) rest else (if bytes_eq w (codes "Concat") then concat_at behind (values behind c n) rest else (named_at behind (reader n) n c w s rest)))))))) (Ok q) e
       (λ e. literal_good n literals.Nil rest q some tt e)
-      (λ e. case_ok (Good n q.0) (bytes_eq w (codes "true")) (Ok (literal (literals.Bool true), rest)) (if bytes_eq w (codes "false") then Ok (literal (literals.Bool false), rest) else (if bytes_eq w (codes "IsRootSpan") then root_span_at behind rest else (if bytes_eq w (codes "IsMatch") then match_at behind (reader n) rest else (if bytes_eq w (codes "Substring") then substring_at behind (reader n) rest else (named_at behind (reader n) n c w s rest))))) (Ok q) e
+      (λ e. case_ok (Good n q.0) (bytes_eq w (codes "true")) (Ok (literal (literals.Bool true), rest)) (if bytes_eq w (codes "false") then Ok (literal (literals.Bool false), rest) else (if bytes_eq w (codes "IsRootSpan") then root_span_at behind rest else (if bytes_eq w (codes "IsMatch") then match_at behind (reader n) rest else (if bytes_eq w (codes "Substring") then substring_at behind (reader n) rest else (if bytes_eq w (codes "ConvertCase") then cased_at behind (reader n) rest else (if bytes_eq w (codes "Concat") then concat_at behind (values behind c n) rest else (named_at behind (reader n) n c w s rest))))))) (Ok q) e
       (λ e. literal_good n (literals.Bool true) rest q some tt e)
-      (λ e. case_ok (Good n q.0) (bytes_eq w (codes "false")) (Ok (literal (literals.Bool false), rest)) (if bytes_eq w (codes "IsRootSpan") then root_span_at behind rest else (if bytes_eq w (codes "IsMatch") then match_at behind (reader n) rest else (if bytes_eq w (codes "Substring") then substring_at behind (reader n) rest else (named_at behind (reader n) n c w s rest)))) (Ok q) e
+      (λ e. case_ok (Good n q.0) (bytes_eq w (codes "false")) (Ok (literal (literals.Bool false), rest)) (if bytes_eq w (codes "IsRootSpan") then root_span_at behind rest else (if bytes_eq w (codes "IsMatch") then match_at behind (reader n) rest else (if bytes_eq w (codes "Substring") then substring_at behind (reader n) rest else (if bytes_eq w (codes "ConvertCase") then cased_at behind (reader n) rest else (if bytes_eq w (codes "Concat") then concat_at behind (values behind c n) rest else (named_at behind (reader n) n c w s rest)))))) (Ok q) e
       (λ e. literal_good n (literals.Bool false) rest q some tt e)
-      (λ e. case_ok (Good n q.0) (bytes_eq w (codes "IsRootSpan")) (root_span_at behind rest) (if bytes_eq w (codes "IsMatch") then match_at behind (reader n) rest else (if bytes_eq w (codes "Substring") then substring_at behind (reader n) rest else (named_at behind (reader n) n c w s rest))) (Ok q) e
+      (λ e. case_ok (Good n q.0) (bytes_eq w (codes "IsRootSpan")) (root_span_at behind rest) (if bytes_eq w (codes "IsMatch") then match_at behind (reader n) rest else (if bytes_eq w (codes "Substring") then substring_at behind (reader n) rest else (if bytes_eq w (codes "ConvertCase") then cased_at behind (reader n) rest else (if bytes_eq w (codes "Concat") then concat_at behind (values behind c n) rest else (named_at behind (reader n) n c w s rest))))) (Ok q) e
       (λ e. root_span_good n rest q some e)
-      (λ e. case_ok (Good n q.0) (bytes_eq w (codes "IsMatch")) (match_at behind (reader n) rest) (if bytes_eq w (codes "Substring") then substring_at behind (reader n) rest else (named_at behind (reader n) n c w s rest)) (Ok q) e
+      (λ e. case_ok (Good n q.0) (bytes_eq w (codes "IsMatch")) (match_at behind (reader n) rest) (if bytes_eq w (codes "Substring") then substring_at behind (reader n) rest else (if bytes_eq w (codes "ConvertCase") then cased_at behind (reader n) rest else (if bytes_eq w (codes "Concat") then concat_at behind (values behind c n) rest else (named_at behind (reader n) n c w s rest)))) (Ok q) e
       (λ e. match_good n well rest q e)
-      (λ e. case_ok (Good n q.0) (bytes_eq w (codes "Substring")) (substring_at behind (reader n) rest) (named_at behind (reader n) n c w s rest) (Ok q) e
+      (λ e. case_ok (Good n q.0) (bytes_eq w (codes "Substring")) (substring_at behind (reader n) rest) (if bytes_eq w (codes "ConvertCase") then cased_at behind (reader n) rest else (if bytes_eq w (codes "Concat") then concat_at behind (values behind c n) rest else (named_at behind (reader n) n c w s rest))) (Ok q) e
       (λ e. substring_good n well rest q e)
-      (λ e. named_good n well some w s rest q e)))))))
+      (λ e. case_ok (Good n q.0) (bytes_eq w (codes "ConvertCase")) (cased_at behind (reader n) rest) (if bytes_eq w (codes "Concat") then concat_at behind (values behind c n) rest else (named_at behind (reader n) n c w s rest)) (Ok q) e
+      (λ e. cased_good n well rest q e)
+      (λ e. case_ok (Good n q.0) (bytes_eq w (codes "Concat")) (concat_at behind (values behind c n) rest) (named_at behind (reader n) n c w s rest) (Ok q) e
+      (λ e. concat_good n some lists rest q e)
+      (λ e. named_good n well some w s rest q e)))))))))
 
-  piece_good : (n : ℕ) → ReadsWell n → 0 < n → (p : Piece) (s rest : List ℕ) (q : Term × List ℕ) → FinePiece p → by_piece behind (reader n) n c p s rest ≡ Ok q → Good n q.0
-  piece_good n well some (word w) s rest q f e = word_good n well some w s rest q e
-  piece_good n well some (sign d) s rest q f e = let h = if_ok (d == 40) (inner_at behind (reader n) rest) _ q e in inner_good n well rest q h.1
-  piece_good n well some end s rest q f e = let h = bind_ok (literal_at behind end s) _ q e in literal_good n h.0 rest q some (literal_fine end s rest h.0 f h.1) h.2
-  piece_good n well some (bytes d) s rest q f e = let h = bind_ok (literal_at behind (bytes d) s) _ q e in literal_good n h.0 rest q some (literal_fine (bytes d) s rest h.0 f h.1) h.2
-  piece_good n well some (float d) s rest q f e = let h = bind_ok (literal_at behind (float d) s) _ q e in literal_good n h.0 rest q some (literal_fine (float d) s rest h.0 f h.1) h.2
-  piece_good n well some (int d) s rest q f e = let h = bind_ok (literal_at behind (int d) s) _ q e in literal_good n h.0 rest q some (literal_fine (int d) s rest h.0 f h.1) h.2
-  piece_good n well some (text d) s rest q f e = let h = bind_ok (literal_at behind (text d) s) _ q e in literal_good n h.0 rest q some (literal_fine (text d) s rest h.0 f h.1) h.2
-  piece_good n well some (operator d) s rest q f e = let h = bind_ok (literal_at behind (operator d) s) _ q e in literal_good n h.0 rest q some (literal_fine (operator d) s rest h.0 f h.1) h.2
+  piece_good : (n : ℕ) → ReadsWell n → 0 < n → ListsWell n → (p : Piece) (s rest : List ℕ) (q : Term × List ℕ) → FinePiece p → by_piece behind (reader n) n c (values behind c n) p s rest ≡ Ok q → Good n q.0
+  piece_good n well some lists (word w) s rest q f e = word_good n well some lists w s rest q e
+  piece_good n well some lists (sign d) s rest q f e = let h = if_ok (d == 40) (inner_at behind (reader n) rest) _ q e in inner_good n well rest q h.1
+  piece_good n well some lists end s rest q f e = let h = bind_ok (literal_at behind end s) _ q e in literal_good n h.0 rest q some (literal_fine end s rest h.0 f h.1) h.2
+  piece_good n well some lists (bytes d) s rest q f e = let h = bind_ok (literal_at behind (bytes d) s) _ q e in literal_good n h.0 rest q some (literal_fine (bytes d) s rest h.0 f h.1) h.2
+  piece_good n well some lists (float d) s rest q f e = let h = bind_ok (literal_at behind (float d) s) _ q e in literal_good n h.0 rest q some (literal_fine (float d) s rest h.0 f h.1) h.2
+  piece_good n well some lists (int d) s rest q f e = let h = bind_ok (literal_at behind (int d) s) _ q e in literal_good n h.0 rest q some (literal_fine (int d) s rest h.0 f h.1) h.2
+  piece_good n well some lists (text d) s rest q f e = let h = bind_ok (literal_at behind (text d) s) _ q e in literal_good n h.0 rest q some (literal_fine (text d) s rest h.0 f h.1) h.2
+  piece_good n well some lists (operator d) s rest q f e = let h = bind_ok (literal_at behind (operator d) s) _ q e in literal_good n h.0 rest q some (literal_fine (operator d) s rest h.0 f h.1) h.2
 
-  operand_good : (n : ℕ) → ReadsWell n → 0 < n → (s : List ℕ) (q : Term × List ℕ) → operand behind (reader n) n c s ≡ Ok q → Good n q.0
+  operand_good : (n : ℕ) → ReadsWell n → 0 < n → ListsWell n → (s : List ℕ) (q : Term × List ℕ) → operand behind (reader n) n c (values behind c n) s ≡ Ok q → Good n q.0
   unfolding operand
-  operand_good n well some s q e =
-      let h = bind_ok (next_at behind s) _ q e in piece_good n well some h.0.0 s h.0.1 q (piece_fine s h.0.1 h.0.0 (next_began behind s h.0.1 h.0.0 h.1)) h.2
+  operand_good n well some lists s q e =
+      let h = bind_ok (next_at behind s) _ q e in piece_good n well some lists h.0.0 s h.0.1 q (piece_fine s h.0.1 h.0.0 (next_began behind s h.0.1 h.0.0 h.1)) h.2
 
   -- ---- operators
   operator_cases : {A : Type 0} (o : Option Binary) (least : ℕ) (more : Binary → Read A) (stop : Read A) (q : A) → by_operator behind o least more stop ≡ Ok q
@@ -618,12 +740,12 @@ module _ (behind : ℕ) (c : Context) where
   has_some zero least t s q e = no_ok _ q e
   has_some (suc n) least t s q e = omega arith
 
-  reads_well : (n : ℕ) → ReadsWell n → GoesWell n → ReadsWell (suc n)
+  reads_well : (n : ℕ) → ReadsWell n → GoesWell n → ListsWell n → ReadsWell (suc n)
   unfolding expression
-  reads_well n reads goes least s q e =
-      let h = bind_ok (operand behind (reader n) n c s) _ q e in
+  reads_well n reads goes lists least s q e =
+      let h = bind_ok (operand behind (reader n) n c (values behind c n) s) _ q e in
       let some : 0 < n = has_some n least h.0.0 h.0.1 q h.2 in
-      let g = operand_good n reads some s h.0 h.1 in
+      let g = operand_good n reads some lists s h.0 h.1 in
       let sum : n + 0 + 1 ≡ suc n = omega arith in
       let state : State n 0 least h.0.0 h.0.1 = first n least h.0.0 h.0.1 g in
       subst (λ m. Got m least q.0 q.1) sum (goes 0 least h.0.0 h.0.1 q state h.2)
@@ -635,10 +757,10 @@ module _ (behind : ℕ) (c : Context) where
             | inr few ↦ record { fine = g.0; levels = omega (arith, few); few = λ full. absurd (omega (arith, full, few)); row = inl (omega (arith, few)) }
           ]
 
-  both_well : (n : ℕ) → ReadsWell n × GoesWell n
-  unfolding expression operators
-  both_well zero = (λ least s q e. no_ok _ q e, λ k least left s q state e. no_ok _ q e)
-  both_well (suc n) = let h = both_well n in (reads_well n h.0 h.1, goes_well n h.0 h.1)
+  both_well : (n : ℕ) → ReadsWell n × GoesWell n × ListsWell n
+  unfolding expression operators values
+  both_well zero = (λ least s q e. no_ok _ q e, λ k least left s q state e. no_ok _ q e, λ s q e. no_ok _ q e)
+  both_well (suc n) = let h = both_well n in (reads_well n h.0 h.1 h.2, goes_well n h.0 h.1, lists_well n h.0 h.2)
 
   pub from_text : (n least : ℕ) (s : List ℕ) (q : Term × List ℕ) → expression behind c n least s ≡ Ok q → Fine c q.0 × ((size true q.0).levels ≤ n)
   from_text n least s q e = let g = (both_well n).0 least s q e in (g.fine, g.levels)

@@ -17,6 +17,7 @@ use Rattle.ottl_text.specs.Gives.{Read}
 use Rattle.ottl_text.specs.Grammar.{path_at, unary_at, binary_at, named_at, word_at}
 use Rattle.ottl_text.specs.Tokens.{word, next_piece}
 use Rattle.ottl_print.specs.Names.{unary_name, binary_name, is_operator, root_name}
+use Rattle.ottl_print.specs.Printing.{is_like}
 use Rattle.ottl_print.proofs.Pieces.{Passes, Free, word_piece}
 use Rattle.ottl_print.proofs.Literals.{split, passes_from}
 
@@ -112,9 +113,10 @@ unary_is_name one.Int = refl
 unary_is_name one.Double = refl
 unary_is_name one.Text = refl
 unary_is_name one.Duration = refl
+unary_is_name one.Like = refl
 
-module _ (behind : ℕ) (read : ℕ → List ℕ → Read (Term × List ℕ)) (levels : ℕ) where
-  pub root_word : (c : Context) (root : Root) (s rest : List ℕ) → in_context c root ≡ true → word_at behind read levels c (root_name c root) s rest ≡ path_at behind levels root rest
+module _ (behind : ℕ) (read : ℕ → List ℕ → Read (Term × List ℕ)) (levels : ℕ) (values : List ℕ → Read (Term × List ℕ × List ℕ)) where
+  pub root_word : (c : Context) (root : Root) (s rest : List ℕ) → in_context c root ≡ true → word_at behind read levels c values (root_name c root) s rest ≡ path_at behind levels root rest
   unfolding word_at named_at unary_of binary_of enumeration_of number_root_of span_root_of event_root_of outer_root_of root_of
   root_word contexts.Span roots.Name s rest e = refl
   root_word contexts.Span roots.Kind s rest e = refl
@@ -173,22 +175,23 @@ module _ (behind : ℕ) (read : ℕ → List ℕ → Read (Term × List ℕ)) (l
   root_word contexts.SpanEvent roots.EventDroppedAttributes s rest e = refl
   root_word contexts.SpanEvent roots.EventMoment s rest e = refl
 
-  pub unary_word : (c : Context) (u : Unary) (s rest : List ℕ) → is_not u ≡ false → word_at behind read levels c (unary_name u) s rest ≡ unary_at behind read u rest
+  pub unary_word : (c : Context) (u : Unary) (s rest : List ℕ) → is_not u ≡ false → is_like u ≡ false → word_at behind read levels c values (unary_name u) s rest ≡ unary_at behind read u rest
   unfolding word_at named_at unary_of
-  unary_word c one.Not s rest e = absurd (true≢false e)
-  unary_word c one.IsString s rest e = refl
-  unary_word c one.IsInt s rest e = refl
-  unary_word c one.IsDouble s rest e = refl
-  unary_word c one.IsBool s rest e = refl
-  unary_word c one.IsMap s rest e = refl
-  unary_word c one.IsList s rest e = refl
-  unary_word c one.Len s rest e = refl
-  unary_word c one.Int s rest e = refl
-  unary_word c one.Double s rest e = refl
-  unary_word c one.Text s rest e = refl
-  unary_word c one.Duration s rest e = refl
+  unary_word c one.Not s rest e l = absurd (true≢false e)
+  unary_word c one.Like s rest e l = absurd (true≢false l)
+  unary_word c one.IsString s rest e l = refl
+  unary_word c one.IsInt s rest e l = refl
+  unary_word c one.IsDouble s rest e l = refl
+  unary_word c one.IsBool s rest e l = refl
+  unary_word c one.IsMap s rest e l = refl
+  unary_word c one.IsList s rest e l = refl
+  unary_word c one.Len s rest e l = refl
+  unary_word c one.Int s rest e l = refl
+  unary_word c one.Double s rest e l = refl
+  unary_word c one.Text s rest e l = refl
+  unary_word c one.Duration s rest e l = refl
 
-  pub binary_word : (c : Context) (b : Binary) (s rest : List ℕ) → is_operator b ≡ false → word_at behind read levels c (binary_name b) s rest ≡ binary_at behind read b rest
+  pub binary_word : (c : Context) (b : Binary) (s rest : List ℕ) → is_operator b ≡ false → word_at behind read levels c values (binary_name b) s rest ≡ binary_at behind read b rest
   unfolding word_at named_at unary_of binary_of
   binary_word c two.Or s rest e = absurd (true≢false e)
   binary_word c two.And s rest e = absurd (true≢false e)

@@ -53,6 +53,9 @@ pub either_ok : {A : Type 0} (test : Bool) (r q o : A) → cond test r q ≡ o �
 either_ok true r q o e = inl (refl, e)
 either_ok false r q o e = inr (refl, e)
 
+pub eq_of_test : (a b : ℕ) → (a == b) ≡ true → a ≡ b
+eq_of_test a b e = eqb-true a b e
+
 ok_of : {A E : Type 0} → A → Result A E → A
 ok_of a (Ok b) = b
 ok_of a (Err e) = a

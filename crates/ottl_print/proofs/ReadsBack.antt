@@ -16,14 +16,14 @@ use Rattle.ottl_text.specs.declared.expression.Binary.TheVariants as two
 use Rattle.ottl_text.specs.Gives.{Read}
 use Rattle.ottl_text.specs.Literals.{fits, in_utf8}
 use Rattle.ottl_text.specs.Names.{operator_of, precedence, takes_keys}
-use Rattle.ottl_text.specs.Syntax.{Term, literal, path, is_root_span, unary, binary, is_match, substring, is_condition, is_value, is_not, suits}
+use Rattle.ottl_text.specs.Syntax.{Term, literal, path, is_root_span, unary, binary, is_match, substring, cased, concat, is_condition, is_value, is_not, suits}
 use Rattle.ottl_text.specs.Grammar.{is_the_sign, word_at, operand, expression, operators}
 use Rattle.ottl_text.specs.Tokens.{Piece, end, word, int, float, bytes, text as quoted_text, sign, operator, piece_at, next_piece}
 use Rattle.ottl_print.specs.Names.{unary_name, binary_name, is_operator, root_name}
 use Rattle.ottl_print.specs.Texts.{escaped, in_quotes, keys_text}
-use Rattle.ottl_print.specs.Printing.{tightness, is_row, argument, operand_of_one, Size, alone, levels_at, joined_size, has_parentheses, called_size, size, in_parentheses, operand_text, first_of, next_of, closing, text}
+use Rattle.ottl_print.specs.Printing.{tightness, is_row, argument, operand_of_one, Size, alone, levels_at, joined_size, has_parentheses, called_size, size, in_parentheses, operand_text, first_of, next_of, closing, is_like, text}
 use Rattle.ottl_print.proofs.Pieces.{Free}
-use Rattle.ottl_print.proofs.Marks.{text_piece, sign_40, sign_41, sign_44, piece_of_operator, operator_piece, operator_again}
+use Rattle.ottl_print.proofs.Marks.{text_piece, sign_40, sign_41, sign_44, sign_93, piece_of_operator, operator_piece, operator_again}
 use Rattle.ottl_print.proofs.Literals.{IsWhole, whole_number, int_read, IsFloat, float_read, bytes_read}
 use Rattle.ottl_print.proofs.NamesBack.{name_piece, in_context, root_is_name, unary_is_name, root_word, unary_word, binary_word, is_name}
 use Rattle.ottl_print.proofs.Steps.{Begins, Ends, FineKeys, keys_ok, path_ok, literal_int, literal_float, literal_of_text, literal_bytes, root_span_ok, IsArgument, unary_ok, binary_ok, match_ok, substring_ok, not_ok, inner_ok, operand_ok, expression_ok, stops_ok, goes_on}
@@ -46,6 +46,9 @@ ends_41 least s = record { free = refl; piece = sign 41; left = s; is = sign_41 
 
 pub ends_44 : (least : ℕ) (s : List ℕ) → Ends least (44 ∷ s)
 ends_44 least s = record { free = refl; piece = sign 44; left = s; is = sign_44 s; no_key = refl; stops = λ b e. no_binary b e }
+
+pub ends_93 : (least : ℕ) (s : List ℕ) → Ends least (93 ∷ s)
+ends_93 least s = record { free = refl; piece = sign 93; left = s; is = sign_93 s; no_key = refl; stops = λ b e. no_binary b e }
 
 operator_no_key : (b : Binary) → is_the_sign 91 (piece_of_operator b) ≡ false
 operator_no_key two.Or = refl
@@ -123,6 +126,8 @@ end_ok (binary b x y) least h = go (is_operator b) h
     go false h = omega (arith, h)
 end_ok (is_match x p) least h = omega (arith, h)
 end_ok (substring x y z) least h = omega (arith, h)
+end_ok (cased k x) least h = omega (arith, h)
+end_ok (concat x d y) least h = omega (arith, h)
 
 pub precedence_some : (b : Binary) → (1 ≤ precedence b) × (precedence b ≤ 5)
 precedence_some two.Or = (omega arith, omega arith)
@@ -156,6 +161,8 @@ tight_some (binary b x y) = go (is_operator b)
     go false = omega arith
 tight_some (is_match x p) = omega arith
 tight_some (substring x y z) = omega arith
+tight_some (cased k x) = omega arith
+tight_some (concat x d y) = omega arith
 
 -- what `not` makes is an operand of `and` and `or` alone
 not_of_comparison : (b : Binary) (x : Term) → is_operator b ≡ true → precedence b ≤ 3 → suits b (unary one.Not x) ≡ true → precedence b < 3
@@ -187,6 +194,22 @@ is_not_only one.Int e = absurd (true≢false (sym e))
 is_not_only one.Double e = absurd (true≢false (sym e))
 is_not_only one.Text e = absurd (true≢false (sym e))
 is_not_only one.Duration e = absurd (true≢false (sym e))
+is_not_only one.Like e = absurd (true≢false (sym e))
+
+pub is_like_only : (u : Unary) → is_like u ≡ true → u ≡ one.Like
+is_like_only one.Like e = refl
+is_like_only one.Not e = absurd (true≢false (sym e))
+is_like_only one.IsString e = absurd (true≢false (sym e))
+is_like_only one.IsInt e = absurd (true≢false (sym e))
+is_like_only one.IsDouble e = absurd (true≢false (sym e))
+is_like_only one.IsBool e = absurd (true≢false (sym e))
+is_like_only one.IsMap e = absurd (true≢false (sym e))
+is_like_only one.IsList e = absurd (true≢false (sym e))
+is_like_only one.Len e = absurd (true≢false (sym e))
+is_like_only one.Int e = absurd (true≢false (sym e))
+is_like_only one.Double e = absurd (true≢false (sym e))
+is_like_only one.Text e = absurd (true≢false (sym e))
+is_like_only one.Duration e = absurd (true≢false (sym e))
 
 pub left_end : (b : Binary) (x : Term) → is_operator b ≡ true → precedence b ≤ tightness x → suits b x ≡ true → precedence b < end_of x
 left_end b (literal l) o h e = omega (arith, (precedence_some b).1)
@@ -204,6 +227,8 @@ left_end b (binary d x y) o h e = go (is_operator d) h
     go false h = omega (arith, (precedence_some b).1)
 left_end b (is_match x p) o h e = omega (arith, (precedence_some b).1)
 left_end b (substring x y z) o h e = omega (arith, (precedence_some b).1)
+left_end b (cased k x) o h e = omega (arith, (precedence_some b).1)
+left_end b (concat x d y) o h e = omega (arith, (precedence_some b).1)
 
 -- ---- trees that are read from some text
 abbrev pub FineLiteral : Literal → Type 0
@@ -217,14 +242,28 @@ FineLiteral (literals.Bytes t) = IsBytes t × (0 < length t)
 abbrev pub suits_one : Unary → Term → Bool
 suits_one u x = cond (is_not u) (is_condition x) (is_value x)
 
-abbrev pub Fine : Context → Term → Type 0
-Fine c (literal l) = FineLiteral l
-Fine c (path p) = (in_context c p.root ≡ true) × ((takes_keys p.root || (length p.keys == 0)) ≡ true) × FineKeys p.keys
-Fine c is_root_span = Unit {0}
-Fine c (unary u x) = (suits_one u x ≡ true) × Fine c x
-Fine c (binary b x y) = (suits b x ≡ true) × (suits b y ≡ true) × Fine c x × Fine c y
-Fine c (is_match x pattern) = (is_value x ≡ true) × (in_utf8 pattern ≡ Ok pattern) × Fine c x
-Fine c (substring x y z) = (is_value x ≡ true) × (is_value y ≡ true) × (is_value z ≡ true) × Fine c x × Fine c y × Fine c z
+abbrev mutual
+  pub Fine : Context → Term → Type 0
+  Fine c (literal l) = FineLiteral l
+  Fine c (path p) = (in_context c p.root ≡ true) × ((takes_keys p.root || (length p.keys == 0)) ≡ true) × FineKeys p.keys
+  Fine c is_root_span = Unit {0}
+  Fine c (unary u x) = (suits_one u x ≡ true) × Fine c x
+  Fine c (binary b x y) = (suits b x ≡ true) × (suits b y ≡ true) × Fine c x × Fine c y
+  Fine c (is_match x pattern) = (is_value x ≡ true) × (in_utf8 pattern ≡ Ok pattern) × Fine c x
+  Fine c (substring x y z) = (is_value x ≡ true) × (is_value y ≡ true) × (is_value z ≡ true) × Fine c x × Fine c y × Fine c z
+  Fine c (cased k x) = (is_value x ≡ true) × Fine c x
+  Fine c (concat x delimiter y) = (in_utf8 delimiter ≡ Ok delimiter) × FineValue c x × FineValues c delimiter y
+
+  -- one value of `Concat`
+  pub FineValue : Context → Term → Type 0
+  FineValue c (unary u x) = (u ≡ one.Like) × (is_value x ≡ true) × Fine c x
+  FineValue c _ = ⊥
+
+  -- values of `Concat` with this delimiter
+  pub FineValues : Context → List ℕ → Term → Type 0
+  FineValues c d (unary u x) = (u ≡ one.Like) × (is_value x ≡ true) × Fine c x
+  FineValues c d (concat x delimiter y) = (delimiter ≡ d) × FineValue c x × FineValues c d y
+  FineValues c d _ = ⊥
 
 pub function_suits : (b : Binary) (x : Term) → is_operator b ≡ false → suits b x ≡ true → is_value x ≡ true
 function_suits two.HasPrefix x o e = e
@@ -294,3 +333,5 @@ row_levels sparing (unary u x) = omega (arith, row_levels sparing x, levels_at_l
 row_levels sparing (binary b x y) = binary_row sparing b x y (omega (arith, row_levels sparing x)) (omega (arith, row_levels sparing y))
 row_levels sparing (is_match x p) = omega (arith, row_levels sparing x, levels_at_least argument x (size sparing x).levels)
 row_levels sparing (substring x y z) = omega (arith, row_levels sparing x, levels_at_least argument x (size sparing x).levels)
+row_levels sparing (cased k x) = omega (arith, row_levels sparing x, levels_at_least argument x (size sparing x).levels)
+row_levels sparing (concat x d y) = omega (arith, row_levels sparing x)

@@ -14,12 +14,16 @@ use Rattle.ottl_text.specs.declared.expression.Literal.TheVariants as literals
 use Rattle.ottl_text.specs.declared.expression.Unary.{Unary}
 use Rattle.ottl_text.specs.declared.expression.Unary.TheVariants as one
 use Rattle.ottl_text.specs.declared.expression.Binary.{Binary}
+use Rattle.ottl_text.specs.declared.expression.Case.{Case}
+use Rattle.ottl_text.specs.declared.expression.Case.TheVariants as cases
+use Rattle.ottl_text.specs.Names.{case_named}
+use Rattle.ottl_print.specs.Names.{case_name}
 use Rattle.ottl_text.specs.declared.fault.FaultKind.{FaultKind}
 use Rattle.ottl_text.specs.Gives.{Read}
 use Rattle.ottl_text.specs.Literals.{fits, in_utf8, text_of, int_of, float_of, bytes_of}
 use Rattle.ottl_text.specs.Names.{operator_of, precedence, takes_keys}
-use Rattle.ottl_text.specs.Syntax.{Term, literal, path, is_root_span, unary, binary, is_match, substring, is_condition, is_value, suits}
-use Rattle.ottl_text.specs.Grammar.{next_at, after_sign, is_the_sign, joined, text_at, bytes_at, int_at, float_at, key_of, key_at, keyed, path_at, pattern_at, root_span_at, literal_at, argument_at, unary_at, binary_at, match_at, substring_at, not_at, inner_at, by_piece, operand, by_operator, expression, operators}
+use Rattle.ottl_text.specs.Syntax.{Term, literal, path, is_root_span, unary, binary, is_match, substring, cased, concat, is_condition, is_value, suits}
+use Rattle.ottl_text.specs.Grammar.{next_at, after_sign, is_the_sign, joined, text_at, bytes_at, int_at, float_at, key_of, key_at, keyed, path_at, pattern_at, root_span_at, literal_at, argument_at, unary_at, binary_at, match_at, substring_at, not_at, inner_at, by_piece, operand, by_operator, case_of, case_at, delimiter_of, delimiter_at, cased_at, behind_value, concat_at, values, expression, operators}
 use Rattle.ottl_text.specs.Tokens.{Piece, end, word, int, float, bytes, text, sign, operator, next_piece}
 use Rattle.ottl_print.specs.Texts.{escaped, in_quotes, float_text, key_text, keys_text}
 use Rattle.ottl_print.proofs.Pieces.{Free}
@@ -164,13 +168,34 @@ module _ (behind : ℕ) where
     unfolding inner_at
     inner_ok s a rest x e f = rw (e, closing a rest f) refl
 
-    pub operand_ok : (levels : ℕ) (c : Context) (s rest : List ℕ) (p : Piece) (r : Read (Term × List ℕ)) → Begins s p rest → by_piece behind read levels c p s rest ≡ r → operand behind read levels c s ≡ r
+    case_text_ok : (k : Case) (s rest : List ℕ) → Begins s (text (escaped (case_name k))) rest → case_at behind s ≡ Ok (k, rest)
+    unfolding case_at case_named
+    case_text_ok cases.Lower s rest e = rw (next_ok s rest (text (codes "lower")) e) refl
+    case_text_ok cases.Upper s rest e = rw (next_ok s rest (text (codes "upper")) e) refl
+
+    pub cased_ok : (k : Case) (s a b c d rest : List ℕ) (x : Term) → Begins s (sign 40) a → IsArgument a x b → Begins b (sign 44) c → Begins c (text (escaped (case_name k))) d → Begins d (sign 41) rest
+        → cased_at behind read s ≡ Ok (cased k x, rest)
+    unfolding cased_at
+    cased_ok k s a b c d rest x e f g h i = rw (opening s a e, argument_ok a b x f, comma b c g, case_text_ok k c d h, closing d rest i) refl
+
+    pub delimiter_ok : (t s a b rest : List ℕ) → in_utf8 t ≡ Ok t → Begins s (sign 44) a → Begins a (text (escaped t)) b → Begins b (sign 41) rest → delimiter_at behind s ≡ Ok (t, rest)
+    unfolding delimiter_at text_at
+    delimiter_ok t s a b rest u e f g = rw (comma s a e, next_ok a b (text (escaped t)) f, text_back t u, closing b rest g) refl
+
+    pub concat_ok : (values : List ℕ → Read (Term × List ℕ × List ℕ)) (s a b left rest d : List ℕ) (p : Piece) (v : Term) → Begins s (sign 40) a → Begins a (sign 91) b → Begins b p left → is_the_sign 93 p ≡ false
+        → values b ≡ Ok (v, d, rest) → concat_at behind values s ≡ Ok (v, rest)
+    unfolding concat_at
+    concat_ok values s a b left rest d p v e f g other h =
+        rw (opening s a e, sign_ok 91 Rattle.ottl_text.specs.declared.fault.FaultKind.TheVariants.NoOpeningBracket a b refl f, next_ok b left p g, other, h) refl
+
+    pub operand_ok : (levels : ℕ) (c : Context) (values : List ℕ → Read (Term × List ℕ × List ℕ)) (s rest : List ℕ) (p : Piece) (r : Read (Term × List ℕ)) → Begins s p rest
+        → by_piece behind read levels c values p s rest ≡ r → operand behind read levels c values s ≡ r
     unfolding operand
-    operand_ok levels c s rest p r e f = rw (next_ok s rest p e) f
+    operand_ok levels c values s rest p r e f = rw (next_ok s rest p e) f
 
   -- ---- expressions
   module _ (c : Context) where
-    pub expression_ok : (n least : ℕ) (s rest : List ℕ) (t : Term) → operand behind (expression behind c n) n c s ≡ Ok (t, rest) → expression behind c (suc n) least s ≡ operators behind c n least t rest
+    pub expression_ok : (n least : ℕ) (s rest : List ℕ) (t : Term) → operand behind (expression behind c n) n c (values behind c n) s ≡ Ok (t, rest) → expression behind c (suc n) least s ≡ operators behind c n least t rest
     unfolding expression
     expression_ok n least s rest t e = rw e refl
 
@@ -190,3 +215,13 @@ module _ (behind : ℕ) where
         → expression behind c n (precedence b + 1) a ≡ Ok (y, rest) → suits b x ≡ true → suits b y ≡ true → operators behind c (suc n) least x s ≡ operators behind c n least (binary b x y) rest
     unfolding operators
     goes_on n least b x y s a rest p e f g h i j = rw (next_ok s a p e, f, g, h, joined_ok b x y s i j) refl
+
+    -- the last value of `Concat`, and one that others follow
+    pub last_value : (n : ℕ) (t : Term) (s a b d rest : List ℕ) → IsArgument (expression behind c n) s t a → Begins a (sign 93) b → delimiter_at behind b ≡ Ok (d, rest) → values behind c (suc n) s ≡ Ok (unary one.Like t, d, rest)
+    unfolding values
+    last_value n t s a b d rest e f g = rw (argument_ok (expression behind c n) s a t e, next_ok a b (sign 93) f, g) refl
+
+    pub more_values : (n : ℕ) (t v : Term) (s a b d rest : List ℕ) → IsArgument (expression behind c n) s t a → Begins a (sign 44) b → values behind c n b ≡ Ok (v, d, rest)
+        → values behind c (suc n) s ≡ Ok (concat (unary one.Like t) d v, d, rest)
+    unfolding values
+    more_values n t v s a b d rest e f g = rw (argument_ok (expression behind c n) s a t e, next_ok a b (sign 44) f, g) refl

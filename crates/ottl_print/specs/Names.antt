@@ -6,6 +6,8 @@ use Rattle.ottl_text.specs.declared.expression.Root.{Root}
 use Rattle.ottl_text.specs.declared.expression.Root.TheVariants as roots
 use Rattle.ottl_text.specs.declared.expression.Unary.{Unary}
 use Rattle.ottl_text.specs.declared.expression.Unary.TheVariants as one
+use Rattle.ottl_text.specs.declared.expression.Case.{Case}
+use Rattle.ottl_text.specs.declared.expression.Case.TheVariants as cases
 use Rattle.ottl_text.specs.declared.expression.Binary.{Binary}
 use Rattle.ottl_text.specs.declared.expression.Binary.TheVariants as two
 
@@ -22,6 +24,12 @@ unary_name one.Int = codes "Int"
 unary_name one.Double = codes "Double"
 unary_name one.Text = codes "String"
 unary_name one.Duration = codes "Duration"
+unary_name one.Like = codes "Concat"
+
+-- what `ConvertCase` makes of letters
+abbrev pub case_name : Case → List ℕ
+case_name cases.Lower = codes "lower"
+case_name cases.Upper = codes "upper"
 
 abbrev pub binary_name : Binary → List ℕ
 binary_name two.Or = codes "or"

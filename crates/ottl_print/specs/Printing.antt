@@ -6,9 +6,9 @@ use Rattle.ottl_text.specs.declared.expression.Unary.{Unary}
 use Rattle.ottl_text.specs.declared.expression.Unary.TheVariants as one
 use Rattle.ottl_text.specs.declared.expression.Binary.{Binary}
 use Rattle.ottl_text.specs.Names.{precedence}
-use Rattle.ottl_text.specs.Syntax.{Term, literal, path, is_root_span, unary, binary, is_match, substring, is_not}
+use Rattle.ottl_text.specs.Syntax.{Term, literal, path, is_root_span, unary, binary, is_match, substring, cased, concat, is_not}
 use Rattle.ottl_text.specs.Grammar.{most_levels}
-use Rattle.ottl_print.specs.Names.{unary_name, binary_name, is_operator, root_name}
+use Rattle.ottl_print.specs.Names.{unary_name, binary_name, case_name, is_operator, root_name}
 use Rattle.ottl_print.specs.Texts.{literal_text, in_quotes, keys_text}
 
 -- how tight the outermost operator of a tree binds; `not` takes a comparison
@@ -24,6 +24,11 @@ is_row _ = false
 -- how tight what a function takes has to bind, and what `not` takes
 abbrev pub argument : ℕ
 argument = 4
+
+-- a value of `Concat`
+abbrev pub is_like : Unary → Bool
+is_like one.Like = true
+is_like _ = false
 
 abbrev pub operand_of_one : Unary → ℕ
 operand_of_one u = if is_not u then 3 else argument
@@ -57,7 +62,7 @@ abbrev pub size : (sparing : Bool) → Term → Size
 size sparing (literal l) = alone 2
 size sparing (path p) = alone (length p.keys + 2)
 size sparing is_root_span = alone 2
-size sparing (unary u x) = alone (levels_at (operand_of_one u) x (size sparing x).levels + 1)
+size sparing (unary u x) = alone (levels_at (operand_of_one u) x (size sparing x).levels + (if is_like u then 2 else 1))
 size sparing (binary b x y) =
     if is_operator b then
     joined_size (has_parentheses sparing b x (size sparing x) (levels_at (precedence b + 1) y (size sparing y).levels)) (size sparing x) (levels_at (precedence b + 1) y (size sparing y).levels)
@@ -65,6 +70,8 @@ size sparing (binary b x y) =
 size sparing (is_match x pattern) = alone (levels_at argument x (size sparing x).levels + 1)
 size sparing (substring x y z) =
     alone (max (levels_at argument x (size sparing x).levels) (max (levels_at argument y (size sparing y).levels) (levels_at argument z (size sparing z).levels)) + 1)
+size sparing (cased k x) = alone (levels_at argument x (size sparing x).levels + 1)
+size sparing (concat x delimiter y) = alone (max (size sparing x).levels ((size sparing y).levels + 1))
 
 abbrev pub in_parentheses : Bool → List ℕ → List ℕ
 in_parentheses parentheses s = if parentheses then 40 ∷ (s ++ 41 ∷ []) else s
@@ -83,23 +90,37 @@ next_of s rest = 44 ∷ 32 ∷ (s ++ rest)
 abbrev pub closing : List ℕ
 closing = 41 ∷ []
 
--- one space stands around operators, and behind commas
-abbrev pub text : (sparing : Bool) → Context → Term → List ℕ
-text sparing c (literal l) = literal_text l
-text sparing c (path p) = root_name c p.root ++ keys_text p.keys
-text sparing c is_root_span = codes "IsRootSpan()"
-text sparing c (unary u x) =
-    if is_not u then codes "not " ++ operand_text 3 x (text sparing c x)
-    else unary_name u ++ first_of (operand_text argument x (text sparing c x)) closing
-text sparing c (binary b x y) =
-    if is_operator b then
-    in_parentheses (has_parentheses sparing b x (size sparing x) (levels_at (precedence b + 1) y (size sparing y).levels)) (text sparing c x)
-    ++ (32 ∷ (binary_name b ++ 32 ∷ operand_text (precedence b + 1) y (text sparing c y)))
-    else binary_name b ++ first_of (operand_text argument x (text sparing c x)) (next_of (operand_text argument y (text sparing c y)) closing)
-text sparing c (is_match x pattern) = codes "IsMatch" ++ first_of (operand_text argument x (text sparing c x)) (next_of (in_quotes pattern) closing)
-text sparing c (substring x y z) =
-    codes "Substring"
-    ++ first_of (operand_text argument x (text sparing c x)) (next_of (operand_text argument y (text sparing c y)) (next_of (operand_text argument z (text sparing c z)) closing))
+-- `Concat` of values, with its delimiter
+abbrev pub concat_text : (values delimiter : List ℕ) → List ℕ
+concat_text values delimiter = codes "Concat" ++ 40 ∷ 91 ∷ (values ++ 93 ∷ next_of (in_quotes delimiter) closing)
+
+abbrev mutual
+  -- one space stands around operators, and behind commas
+  pub text : (sparing : Bool) → Context → Term → List ℕ
+  text sparing c (literal l) = literal_text l
+  text sparing c (path p) = root_name c p.root ++ keys_text p.keys
+  text sparing c is_root_span = codes "IsRootSpan()"
+  text sparing c (unary u x) =
+      if is_not u then codes "not " ++ operand_text 3 x (text sparing c x)
+      else if is_like u then concat_text (operand_text argument x (text sparing c x)) []
+      else unary_name u ++ first_of (operand_text argument x (text sparing c x)) closing
+  text sparing c (binary b x y) =
+      if is_operator b then
+      in_parentheses (has_parentheses sparing b x (size sparing x) (levels_at (precedence b + 1) y (size sparing y).levels)) (text sparing c x)
+      ++ (32 ∷ (binary_name b ++ 32 ∷ operand_text (precedence b + 1) y (text sparing c y)))
+      else binary_name b ++ first_of (operand_text argument x (text sparing c x)) (next_of (operand_text argument y (text sparing c y)) closing)
+  text sparing c (is_match x pattern) = codes "IsMatch" ++ first_of (operand_text argument x (text sparing c x)) (next_of (in_quotes pattern) closing)
+  text sparing c (substring x y z) =
+      codes "Substring"
+      ++ first_of (operand_text argument x (text sparing c x)) (next_of (operand_text argument y (text sparing c y)) (next_of (operand_text argument z (text sparing c z)) closing))
+  text sparing c (cased k x) = codes "ConvertCase" ++ first_of (operand_text argument x (text sparing c x)) (next_of (in_quotes (case_name k)) closing)
+  text sparing c (concat x delimiter y) = concat_text (values_text sparing c x ++ 44 ∷ 32 ∷ values_text sparing c y) delimiter
+
+  -- the values of `Concat`, of what is made of each and of those that follow
+  pub values_text : (sparing : Bool) → Context → Term → List ℕ
+  values_text sparing c (unary u x) = operand_text argument x (text sparing c x)
+  values_text sparing c (concat x delimiter y) = values_text sparing c x ++ 44 ∷ 32 ∷ values_text sparing c y
+  values_text sparing c _ = []
 
 abbrev pub fits_in : ℕ → Size → Bool
 fits_in n s = nat_le s.levels n
