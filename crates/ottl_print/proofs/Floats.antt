@@ -96,6 +96,10 @@ sign_goes : (negative : Bool) (t : List ℕ) → with_a_point (sign_text negativ
 sign_goes true t = refl
 sign_goes false t = refl
 
+float_text_is : (x : Float) → float_is_finite x ≡ true → float_text x ≡ with_a_point (shortest_text x)
+unfolding float_text
+float_text_is x e = rw e refl
+
 -- the numeral of the same worth that has a point
 abbrev pointed : Parts → Parts
 pointed p = record { whole = p.whole; point = true; fraction = 48 ∷ []; exponent_negative = p.exponent_negative; exponent = p.exponent; len = p.len + 2 }
@@ -105,7 +109,7 @@ module _ (x : Float) (negative : Bool) (bits digits power : ℕ) (text : List �
   -- of a numeral with a point
   of_pointed : (q : Parts) (first : ℕ) (others : List ℕ) → q.whole ≡ first ∷ others → q.point ≡ true → IsWellFormed q → 0 < length q.fraction → IsWorth q digits (power + 58)
       → with_a_point (sign_text negative ++ text) ≡ sign_text negative ++ text_of q → IsFloat x
-  unfolding float_text float_of
+  unfolding float_of
   of_pointed q first others whole point well some worth again =
       let written : with_a_point (shortest_text x) ≡ sign_text negative ++ text_of q = ap with_a_point same ∙ again in
       let filled : 0 < length q.whole = omega (arith, ap length whole) in
@@ -119,12 +123,12 @@ module _ (x : Float) (negative : Bool) (bits digits power : ℕ) (text : List �
         fraction = q.fraction;
         minus = q.exponent_negative;
         marks = q.exponent;
-        is = written ∙ ap (λ l. sign_text negative ++ l) layout ∙ sym (append_assoc (sign_text negative) (first ∷ others) (46 ∷ (q.fraction ++ exponent_text q.exponent_negative q.exponent)));
+        is = float_text_is x is_finite ∙ written ∙ ap (λ l. sign_text negative ++ l) layout ∙ sym (append_assoc (sign_text negative) (first ∷ others) (46 ∷ (q.fraction ++ exponent_text q.exponent_negative q.exponent)));
         digits = subst (Passes is_ascii_digit) whole (passes_digits q.whole well.whole_digits);
         digits_behind = passes_digits q.fraction well.fraction_digits;
         some_behind = some;
         digits_of_exponent = passes_digits q.exponent well.exponent_digits;
-        again = rw (parsed, is_finite) refl;
+        again = ap float_of (float_text_is x is_finite) ∙ rw (parsed, is_finite) refl;
       }
 
 some_first : (l : List ℕ) → 0 < length l → (d : ℕ) × (ds : List ℕ) × (l ≡ d ∷ ds)

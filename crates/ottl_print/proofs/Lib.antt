@@ -9,3 +9,4 @@ mod Parts
 mod Floats
 mod FromText
 mod Law
+mod Counted

@@ -50,9 +50,13 @@ abbrev pub joined_size : (parentheses : Bool) → Size → (right : ℕ) → Siz
 joined_size true left right = record { levels = max (left.levels + 1) (right + 2); row = 1 }
 joined_size false left right = record { levels = max left.levels (left.row + 2 + right); row = left.row + 1 }
 
--- Whether the operand on the left stands in parentheses. `sparing`: also where it then takes fewer levels.
+-- whether parentheses save levels: the operand on the left and what follows it take more in a row
+abbrev pub saves_levels : (sparing : Bool) → Term → Size → (right : ℕ) → Bool
+saves_levels sparing x left right = sparing && (is_row x && nat_lt left.levels (left.row + 2 + right))
+
+-- Whether the operand on the left stands in parentheses. `sparing`: also where that saves levels.
 abbrev pub has_parentheses : (sparing : Bool) → Binary → Term → Size → (right : ℕ) → Bool
-has_parentheses sparing b x left right = nat_lt (tightness x) (precedence b) || (sparing && (is_row x && nat_lt left.levels (left.row + 2 + right)))
+has_parentheses sparing b x left right = nat_lt (tightness x) (precedence b) || saves_levels sparing x left right
 
 -- of a function of two values, by the levels of each
 abbrev pub called_size : ℕ → ℕ → Size

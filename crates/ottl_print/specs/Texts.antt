@@ -1,6 +1,6 @@
 -- What is written for literals and keys.
 use Rattle.std.specs.Prelude.{ℕ, Bool, true, false, ◌==◌, List, [], ◌∷◌, ◌++◌, codes, if◌then◌else◌}
-use Rattle.std.specs.Float.{Float}
+use Rattle.std.specs.Float.{Float, float_is_finite}
 use Rattle.std.specs.Fmt.{signed_decimal}
 use Rattle.hex.specs.Hex.{encode_lower}
 use Rattle.shortest_float.specs.Shortest.{shortest_text}
@@ -42,9 +42,13 @@ with_a_point (c ∷ cs) =
     else if c == 101 then 46 ∷ 48 ∷ c ∷ cs
     else c ∷ with_a_point cs
 
--- the fewest digits that read as the float
+-- the fewest digits that read as the float, and nothing where it isn't finite: no text is read as such a one
 unfoldable pub float_text : Float → List ℕ
-float_text x = with_a_point (shortest_text x)
+float_text x = if float_is_finite x then with_a_point (shortest_text x) else []
+
+-- digits behind `0x`
+abbrev pub hex_text : List ℕ → List ℕ
+hex_text s = 48 ∷ 120 ∷ encode_lower s
 
 abbrev pub literal_text : Literal → List ℕ
 literal_text literals.Nil = codes "nil"
@@ -53,11 +57,14 @@ literal_text (literals.Bool false) = codes "false"
 literal_text (literals.Int z) = signed_decimal z
 literal_text (literals.Float x) = float_text x
 literal_text (literals.Text s) = in_quotes s
-literal_text (literals.Bytes s) = 48 ∷ 120 ∷ encode_lower s
+literal_text (literals.Bytes s) = hex_text s
 
 abbrev pub key_text : Key → List ℕ
 key_text (keys.Text s) = in_quotes s
 key_text (keys.Index z) = signed_decimal z
+
+abbrev pub bracketed : Key → List ℕ
+bracketed k = 91 ∷ (key_text k ++ 93 ∷ [])
 
 abbrev pub keys_text : List Key → List ℕ
 keys_text [] = []

@@ -2,5 +2,8 @@
 #![tactic(auto)]
 
 mod laws;
+mod names;
+mod sizes;
+mod texts;
 
 pub use laws::prints_as_itself;
