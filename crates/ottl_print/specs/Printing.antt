@@ -62,18 +62,30 @@ has_parentheses sparing b x left right = nat_lt (tightness x) (precedence b) || 
 abbrev pub called_size : ℕ → ℕ → Size
 called_size m n = alone (max m n + 1)
 
+-- the levels of its own
+abbrev pub levels_of_one : Unary → ℕ
+levels_of_one u = if is_like u then 2 else 1
+
+-- of `not` or a function of one value
+abbrev pub one_size : Unary → Term → Size → Size
+one_size u x s = alone (levels_at (operand_of_one u) x s.levels + levels_of_one u)
+
+-- of `Substring`
+abbrev pub part_size : (text start count : ℕ) → Size
+part_size l m n = alone (max l (max m n) + 1)
+
 abbrev pub size : (sparing : Bool) → Term → Size
 size sparing (literal l) = alone 2
 size sparing (path p) = alone (length p.keys + 2)
 size sparing is_root_span = alone 2
-size sparing (unary u x) = alone (levels_at (operand_of_one u) x (size sparing x).levels + (if is_like u then 2 else 1))
+size sparing (unary u x) = one_size u x (size sparing x)
 size sparing (binary b x y) =
     if is_operator b then
     joined_size (has_parentheses sparing b x (size sparing x) (levels_at (precedence b + 1) y (size sparing y).levels)) (size sparing x) (levels_at (precedence b + 1) y (size sparing y).levels)
     else called_size (levels_at argument x (size sparing x).levels) (levels_at argument y (size sparing y).levels)
 size sparing (is_match x pattern) = alone (levels_at argument x (size sparing x).levels + 1)
 size sparing (substring x y z) =
-    alone (max (levels_at argument x (size sparing x).levels) (max (levels_at argument y (size sparing y).levels) (levels_at argument z (size sparing z).levels)) + 1)
+    part_size (levels_at argument x (size sparing x).levels) (levels_at argument y (size sparing y).levels) (levels_at argument z (size sparing z).levels)
 size sparing (cased k x) = alone (levels_at argument x (size sparing x).levels + 1)
 size sparing (concat x delimiter y) = alone (max (size sparing x).levels ((size sparing y).levels + 1))
 
@@ -98,20 +110,31 @@ closing = 41 ∷ []
 abbrev pub concat_text : (values delimiter : List ℕ) → List ℕ
 concat_text values delimiter = codes "Concat" ++ 40 ∷ 91 ∷ (values ++ 93 ∷ next_of (in_quotes delimiter) closing)
 
+-- of `not` or a function of one value, from the text of that
+abbrev pub one_text : Unary → Term → List ℕ → List ℕ
+one_text u x s =
+    if is_not u then codes "not " ++ operand_text 3 x s
+    else if is_like u then concat_text (operand_text argument x s) []
+    else unary_name u ++ first_of (operand_text argument x s) closing
+
+-- how tight the operand on the right has to bind
+abbrev pub right_of : Binary → ℕ
+right_of b = precedence b + 1
+
+-- of two operands and the operator between them, from their texts
+abbrev pub row_text : (sparing : Bool) → Binary → (x y : Term) → (left right : List ℕ) → List ℕ
+row_text sparing b x y left right =
+    in_parentheses (has_parentheses sparing b x (size sparing x) (levels_at (right_of b) y (size sparing y).levels)) left ++ (32 ∷ (binary_name b ++ 32 ∷ operand_text (right_of b) y right))
+
 abbrev mutual
   -- one space stands around operators, and behind commas
   pub text : (sparing : Bool) → Context → Term → List ℕ
   text sparing c (literal l) = literal_text l
   text sparing c (path p) = root_name c p.root ++ keys_text p.keys
   text sparing c is_root_span = codes "IsRootSpan()"
-  text sparing c (unary u x) =
-      if is_not u then codes "not " ++ operand_text 3 x (text sparing c x)
-      else if is_like u then concat_text (operand_text argument x (text sparing c x)) []
-      else unary_name u ++ first_of (operand_text argument x (text sparing c x)) closing
+  text sparing c (unary u x) = one_text u x (text sparing c x)
   text sparing c (binary b x y) =
-      if is_operator b then
-      in_parentheses (has_parentheses sparing b x (size sparing x) (levels_at (precedence b + 1) y (size sparing y).levels)) (text sparing c x)
-      ++ (32 ∷ (binary_name b ++ 32 ∷ operand_text (precedence b + 1) y (text sparing c y)))
+      if is_operator b then row_text sparing b x y (text sparing c x) (text sparing c y)
       else binary_name b ++ first_of (operand_text argument x (text sparing c x)) (next_of (operand_text argument y (text sparing c y)) closing)
   text sparing c (is_match x pattern) = codes "IsMatch" ++ first_of (operand_text argument x (text sparing c x)) (next_of (in_quotes pattern) closing)
   text sparing c (substring x y z) =
