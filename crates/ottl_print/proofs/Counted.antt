@@ -16,11 +16,11 @@ use Rattle.ottl_print.proofs.ReadsBack.{levels_at_least}
 pub not_joined : (s : Size) (n levels row right both : ℕ) → IsSizeOf s levels row → IsCapped right n → both ≡ min (max levels (row + 2 + right)) 201 → (r : ℕ) → r ≡ min (row + 1) 201
     → IsSizeOf (joined_size false s n) both r
 not_joined s n levels row right both h k is r same = elim (cases_lt s.levels 201) [
-    | inl few ↦ (
+  | inl few ↦ (
       let row_is = h.row_is (omega (arith, few)) in
       record { levels_are = omega (arith, h.levels_are, k, is, row_is); row_is = λ e. omega (arith, e, row_is, same); row_small = omega (arith, same) })
-    | inr many ↦ record { levels_are = omega (arith, h.levels_are, k, is, many); row_is = λ e. absurd (omega (arith, e, many)); row_small = omega (arith, same) }
-  ]
+  | inr many ↦ record { levels_are = omega (arith, h.levels_are, k, is, many); row_is = λ e. absurd (omega (arith, e, many)); row_small = omega (arith, same) }
+]
 
 -- too many levels are too many with parentheses and without
 any_joined : (s : Size) (n levels row : ℕ) (w v : Bool) → 200 < s.levels → IsSizeOf (joined_size w s n) levels row → IsSizeOf (joined_size v s n) levels row
@@ -35,9 +35,9 @@ any_joined s n levels row w v many h =
 
 pub chosen_joined : (s : Size) (n levels row : ℕ) (w v : Bool) → (s.levels ≤ 200 → w ≡ v) → IsSizeOf (joined_size w s n) levels row → IsSizeOf (joined_size v s n) levels row
 chosen_joined s n levels row w v same h = elim (cases_lt 200 s.levels) [
-    | inl many ↦ any_joined s n levels row w v many h
-    | inr few ↦ subst (λ w. IsSizeOf (joined_size w s n) levels row) (same few) h
-  ]
+  | inl many ↦ any_joined s n levels row w v many h
+  | inr few ↦ subst (λ w. IsSizeOf (joined_size w s n) levels row) (same few) h
+]
 
 pub long_test : (s : Size) (n levels row right : ℕ) → IsSizeOf s levels row → IsCapped right n → s.levels ≤ 200 → nat_lt levels (row + 2 + right) ≡ nat_lt s.levels (s.row + 2 + n)
 long_test s n levels row right h k few =
@@ -46,9 +46,9 @@ long_test s n levels row right h k few =
     elim (cases_lt n 201) [
       | inl small ↦ (let is : right ≡ n = omega (arith, k, small) in rw (levels_is, row_is, is) refl)
       | inr large ↦ (
-        let lower : levels < row + 2 + right = omega (arith, levels_is, few, k, large) in
-        let upper : s.levels < s.row + 2 + n = omega (arith, few, large) in
-        Rattle.std.proofs.Common.lt-ltb levels (row + 2 + right) lower ∙ sym (Rattle.std.proofs.Common.lt-ltb s.levels (s.row + 2 + n) upper))
+          let lower : levels < row + 2 + right = omega (arith, levels_is, few, k, large) in
+          let upper : s.levels < s.row + 2 + n = omega (arith, few, large) in
+          Rattle.std.proofs.Common.lt-ltb levels (row + 2 + right) lower ∙ sym (Rattle.std.proofs.Common.lt-ltb s.levels (s.row + 2 + n) upper))
     ]
 
 -- ---- parts

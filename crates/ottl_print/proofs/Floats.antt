@@ -171,19 +171,19 @@ module _ (x : Float) (negative : Bool) (bits digits power : ℕ) (text : List �
     (near : IsNearestBits binary64 (digits * 10 ^ (power + 58 - 400)) (10 ^ (400 - (power + 58))) bits) (same : shortest_text x ≡ sign_text negative ++ text) where
   of_plain : (p : Parts) → text ≡ text_of p → IsPlain p → IsWorth p digits (power + 58) → IsFloat x
   of_plain p is plain worth = elim (cases_Bool p.point) [
-      | inl point ↦ (
+    | inl point ↦ (
         let first = some_first p.whole plain.whole in
         let R = 46 ∷ (p.fraction ++ ex) in
         let shape : text ≡ p.whole ++ R = is ∙ rw point refl in
         of_pointed x negative bits digits power text is_finite s near same p first.0 first.1 first.2 point plain.well_formed (plain.fraction point) worth
         (sign_goes negative text ∙ ap (λ l. sign_text negative ++ with_a_point l) shape ∙ ap (λ l. sign_text negative ++ l) (digits_go p.whole R whole ∙ sym shape ∙ is)))
-      | inr point ↦ (
+    | inr point ↦ (
         let first = some_first p.whole plain.whole in
         let none = plain.well_formed.no_point point in
         let shape : text ≡ p.whole ++ ex = is ∙ rw point refl in
         of_pointed x negative bits digits power text is_finite s near same (pointed p) first.0 first.1 first.2 refl (pointed_well p point none plain.well_formed) (omega arith) (pointed_worth p digits (power + 58) none worth)
         (sign_goes negative text ∙ ap (λ l. sign_text negative ++ with_a_point l) shape ∙ ap (λ l. sign_text negative ++ l) (digits_go p.whole ex whole ∙ ap (λ l. p.whole ++ l) (some_exponent p.exponent_negative p.exponent (plain.marked point)))))
-    ]
+  ]
     where
       ex : List ℕ
       ex = exponent_text p.exponent_negative p.exponent
@@ -194,9 +194,9 @@ module _ (x : Float) (negative : Bool) (bits digits power : ℕ) (text : List �
 -- ---- the size of a float
 finite_size : (bits : ℕ) → 0 < bits → bits < 2047 * 2 ^ 52 → (m : ℕ) × (k : ℕ) × IsFinite bits m k
 finite_size bits some few = elim (cases_lt bits (2 ^ 52)) [
-    | inl small ↦ (bits, 0, record { bits_are = omega (arith, few); some = some; fits = omega (arith, small); normal = λ e. absurd (omega (arith, e)); finite = omega arith })
-    | inr large ↦ (2 ^ 52 + bits % 2 ^ 52, bits / 2 ^ 52 - 1, record { bits_are = omega (arith, few, large); some = omega arith; fits = omega (arith, few); normal = λ e. omega arith; finite = omega (arith, few) })
-  ]
+  | inl small ↦ (bits, 0, record { bits_are = omega (arith, few); some = some; fits = omega (arith, small); normal = λ e. absurd (omega (arith, e)); finite = omega arith })
+  | inr large ↦ (2 ^ 52 + bits % 2 ^ 52, bits / 2 ^ 52 - 1, record { bits_are = omega (arith, few, large); some = omega arith; fits = omega (arith, few); normal = λ e. omega arith; finite = omega (arith, few) })
+]
 
 module _ (bits m k : ℕ) (f : IsFinite bits m k) where
   abbrev units : ℕ
@@ -207,11 +207,11 @@ module _ (bits m k : ℕ) (f : IsFinite bits m k) where
   unfolding power_from
   none_above zero q above below = absurd (omega (arith, below))
   none_above (suc start) q above below = elim (cases_Bool (has_decimal bits units start)) [
-      | inl here ↦ (let at : start < q = subst (λ b. power_from bits units b start < q) here above in absurd (omega (arith, at, below)))
-      | inr none ↦ (
+    | inl here ↦ (let at : start < q = subst (λ b. power_from bits units b start < q) here above in absurd (omega (arith, at, below)))
+    | inr none ↦ (
         let at : power_from bits units false start < q = subst (λ b. power_from bits units b start < q) none above in
         elim (cases_lt q start) [ inl lower ↦ none_above start q at lower | inr same ↦ (let is : q ≡ start = omega (arith, same, below) in ap (has_decimal bits units) is ∙ none) ])
-    ]
+  ]
 
   power_at_most : (start : ℕ) → power_from bits units false (suc start) ≤ start
   unfolding power_from
@@ -220,9 +220,9 @@ module _ (bits m k : ℕ) (f : IsFinite bits m k) where
       below : (n : ℕ) → power_from bits units false n ≤ n
       below zero = omega arith
       below (suc n) = elim (cases_Bool (has_decimal bits units n)) [
-          | inl here ↦ (let least : n ≤ suc n = omega arith in subst (λ b. power_from bits units b n ≤ suc n) (sym here) least)
-          | inr none ↦ (let least : power_from bits units false n ≤ suc n = omega (arith, below n) in subst (λ b. power_from bits units b n ≤ suc n) (sym none) least)
-        ]
+        | inl here ↦ (let least : n ≤ suc n = omega arith in subst (λ b. power_from bits units b n ≤ suc n) (sym here) least)
+        | inr none ↦ (let least : power_from bits units false n ≤ suc n = omega (arith, below n) in subst (λ b. power_from bits units b n ≤ suc n) (sym none) least)
+      ]
 
       go : (b : Bool) (n : ℕ) → power_from bits units b n ≤ n
       go true n = omega arith
@@ -259,7 +259,7 @@ other_text_is x z some e =
 
 of_finite : (x : Float) → T (fits binary64 x) → float_is_finite x ≡ true → IsFloat x
 of_finite x f is_finite = elim (cases_lt 0 (size_bits x)) [
-    | inl some ↦ (
+  | inl some ↦ (
       let h = finite_size (size_bits x) some (finite_bits x f is_finite) in
       let m = h.0 in
       let k = h.1 in
@@ -275,11 +275,11 @@ of_finite x f is_finite = elim (cases_lt 0 (size_bits x)) [
       (layout_form (decimal d) p n.0.1 (decimal_nonempty d (omega (arith, few.1))) (first_decimal d few.0 (omega (arith, few.1))) top (length-decimal-le 18 d (omega arith) few.1 (omega (arith, few.1)))) in
       of_plain x (nat_le (2 ^ 63) (to_bits binary64 x)) (size_bits x) d p (layout (decimal d) p) is_finite (sign_and_size x f is_finite)
       (near_of_reads (size_bits x) d p (shortest_reads (size_bits x) m k own) (finite_bits x f is_finite)) (other_text_is x (m * 2 ^ k) some z) form.0 form.1 form.2 form.3)
-    | inr zeros ↦ (
+  | inr zeros ↦ (
       let none : size_bits x ≡ 0 = omega (arith, zeros) in
       let near : IsNearestBits binary64 (0 * 10 ^ (342 + 58 - 400)) (10 ^ (400 - (342 + 58))) (size_bits x) = subst (IsNearestBits binary64 0 1) (sym none) (nearest_of_zero binary64 0 1 (omega arith) refl) in
       of_plain x (nat_le (2 ^ 63) (to_bits binary64 x)) (size_bits x) 0 342 (codes "0.0") is_finite (sign_and_size x f is_finite) near (zero_text_is x none) zero_text.0 zero_text.1 zero_text.2 zero_text.3)
-  ]
+]
 
 pub float_is : (d : List ℕ) (x : Float) → float_of d ≡ Ok x → IsFloat x
 unfolding float_of

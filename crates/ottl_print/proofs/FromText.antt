@@ -261,9 +261,9 @@ suited_value two.HasSuffix t h e = e
 
 suited_tight : (b : Binary) (t : Term) → is_row t ≡ false → suits b t ≡ true → precedence b + 1 ≤ tightness t
 suited_tight b t e f = elim (cases_lt (precedence b) 3) [
-    | inl low ↦ omega (arith, low, alone_tight t e)
-    | inr high ↦ omega (arith, value_tight t e (suited_value b t high f), (precedence_some b).1)
-  ]
+  | inl low ↦ omega (arith, low, alone_tight t e)
+  | inr high ↦ omega (arith, value_tight t e (suited_value b t high f), (precedence_some b).1)
+]
 
 module _ (behind : ℕ) (c : Context) where
   abbrev L : Term → ℕ
@@ -308,12 +308,12 @@ module _ (behind : ℕ) (c : Context) where
       go : (b : Bool) → nat_lt (tightness t) least ≡ b → cond b (L t + 1) (L t) ≤ n
       go false is = few
       go true is = elim row [
-          | inl h ↦ h
-          | inr r ↦ elim r [
-              | inl a ↦ absurd (omega (arith, loose (tightness t) least is, alone a))
-              | inr h ↦ absurd (omega (arith, loose (tightness t) least is, h))
-            ]
+        | inl h ↦ h
+        | inr r ↦ elim r [
+          | inl a ↦ absurd (omega (arith, loose (tightness t) least is, alone a))
+          | inr h ↦ absurd (omega (arith, loose (tightness t) least is, h))
         ]
+      ]
 
   -- ---- operands
   -- an operand is no row, or it has a level for its parentheses
@@ -669,32 +669,32 @@ module _ (behind : ℕ) (c : Context) where
 
       room : (right : ℕ) → has_parentheses true b left (size true left) right ≡ true → right ≤ n → L left + 1 ≤ suc n + k + 1
       room right is few_right = elim (parted (nat_lt (tightness left) (precedence b)) (is_row left) (nat_lt (L left) (K left + 2 + right)) is) [
-          | inl loose ↦ elim state.row [
-              | inl h ↦ h
-              | inr r ↦ elim r [
-                  | inl alone ↦ absurd (omega (arith, true_lt (tightness left) (precedence b) loose, suited_tight b left alone suits_left))
-                  | inr h ↦ absurd (omega (arith, true_lt (tightness left) (precedence b) loose, h.1 p a b begins op))
-                ]
-            ]
-          | inr long ↦ elim (cases_lt (L left) (suc n + k + 1)) [
-              | inl h ↦ omega (arith, h)
-              | inr h ↦ absurd (omega (arith, true_lt (L left) (K left + 2 + right) long.1, state.few h, few_right, h))
-            ]
+        | inl loose ↦ elim state.row [
+          | inl h ↦ h
+          | inr r ↦ elim r [
+            | inl alone ↦ absurd (omega (arith, true_lt (tightness left) (precedence b) loose, suited_tight b left alone suits_left))
+            | inr h ↦ absurd (omega (arith, true_lt (tightness left) (precedence b) loose, h.1 p a b begins op))
+          ]
         ]
+        | inr long ↦ elim (cases_lt (L left) (suc n + k + 1)) [
+          | inl h ↦ omega (arith, h)
+          | inr h ↦ absurd (omega (arith, true_lt (L left) (K left + 2 + right) long.1, state.few h, few_right, h))
+        ]
+      ]
 
       within : (right : ℕ) → has_parentheses true b left (size true left) right ≡ false → right ≤ n → (K left + 2 + right ≤ L left) ⊎ (K left ≡ 0)
       within right is few_right = elim (neither (nat_lt (tightness left) (precedence b)) (is_row left) (nat_lt (L left) (K left + 2 + right)) is) [
-          | inl alone ↦ inr (not_row_alone true left alone)
-          | inr short ↦ inl (from_not_below (L left) (K left + 2 + right) short)
-        ]
+        | inl alone ↦ inr (not_row_alone true left alone)
+        | inr short ↦ inl (from_not_below (L left) (K left + 2 + right) short)
+      ]
 
       by_wrap : (w : Bool) → has_parentheses true b left (size true left) (levels_at (precedence b + 1) y (L y)) ≡ w → levels_at (precedence b + 1) y (L y) ≤ n
           → ((joined_size w (size true left) (levels_at (precedence b + 1) y (L y))).levels ≤ n + (k + 1) + 1) × (n + (k + 1) + 1 ≤ (joined_size w (size true left) (levels_at (precedence b + 1) y (L y))).levels → (joined_size w (size true left) (levels_at (precedence b + 1) y (L y))).row ≤ k + 1)
       by_wrap true is few_right = let h = room (levels_at (precedence b + 1) y (L y)) is few_right in (omega (arith, h, few_right), λ full. omega arith)
       by_wrap false is few_right = elim (within (levels_at (precedence b + 1) y (L y)) is few_right) [
-          | inl h ↦ (omega (arith, h, state.levels), λ full. let whole : suc n + k + 1 ≤ L left = omega (arith, full, h) in omega (arith, state.few whole))
-          | inr none ↦ (omega (arith, none, few_right, state.levels), λ full. omega (arith, none))
-        ]
+        | inl h ↦ (omega (arith, h, state.levels), λ full. let whole : suc n + k + 1 ≤ L left = omega (arith, full, h) in omega (arith, state.few whole))
+        | inr none ↦ (omega (arith, none, few_right, state.levels), λ full. omega (arith, none))
+      ]
 
   -- ---- expressions, by the levels
   same_piece : (s r a : List ℕ) (p d : Piece) → Begins s p a → Begins s d r → p ≡ d
@@ -723,15 +723,15 @@ module _ (behind : ℕ) (c : Context) where
       let stop : Read (Term × List ℕ) = Ok (left, s) in
       elim (operator_cases (operator_of h.0.0) least more stop q h.2) [
         | inl w ↦
-          (let b = w.0 in
-          let y = bind_ok (expression behind c n (precedence b + 1) h.0.1) _ q w.3 in
-          let j = bind_ok (joined behind b left y.0.0 s) _ q y.2 in
-          let g = reads (precedence b + 1) h.0.1 y.0 y.1 in
-          let t = joined_is b left y.0.0 j.0 s j.1 in
-          let is = operator_fine h.0.0 b (piece_fine s h.0.1 h.0.0 begins) w.1 in
-          let state : State n (k + 1) least (binary b left y.0.0) y.0.1 = joined_state n k least b left y.0.0 s h.0.1 y.0.1 h.0.0 state begins w.1 is (true_le least (precedence b) w.2) t.0 t.1 g in
-          let sum : n + (k + 1) + 1 ≡ suc n + k + 1 = omega arith in
-          subst (λ m. Got m least q.0 q.1) sum (goes (k + 1) least (binary b left y.0.0) y.0.1 q state (ap (λ both. operators behind c n least both y.0.1) t.2 ∙ j.2)))
+            (let b = w.0 in
+            let y = bind_ok (expression behind c n (precedence b + 1) h.0.1) _ q w.3 in
+            let j = bind_ok (joined behind b left y.0.0 s) _ q y.2 in
+            let g = reads (precedence b + 1) h.0.1 y.0 y.1 in
+            let t = joined_is b left y.0.0 j.0 s j.1 in
+            let is = operator_fine h.0.0 b (piece_fine s h.0.1 h.0.0 begins) w.1 in
+            let state : State n (k + 1) least (binary b left y.0.0) y.0.1 = joined_state n k least b left y.0.0 s h.0.1 y.0.1 h.0.0 state begins w.1 is (true_le least (precedence b) w.2) t.0 t.1 g in
+            let sum : n + (k + 1) + 1 ≡ suc n + k + 1 = omega arith in
+            subst (λ m. Got m least q.0 q.1) sum (goes (k + 1) least (binary b left y.0.0) y.0.1 q state (ap (λ both. operators behind c n least both y.0.1) t.2 ∙ j.2)))
         | inr w ↦ (let same = same_ok (left, s) q w.1 in subst (λ q. Got (suc n + k + 1) least q.0 q.1) same (stops_well n k least left s h.0.1 h.0.0 state begins w.0))
       ]
 

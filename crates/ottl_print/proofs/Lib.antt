@@ -10,3 +10,4 @@ mod Floats
 mod FromText
 mod Law
 mod Counted
+pub mod Rows

@@ -95,31 +95,57 @@ is_one k v c e = inr (subst (λ k. ((letter_of k == 0) ≡ false) × (escape_of 
 
 view : (c : ℕ) → View c
 view c =
-    elim (is_it c 34) [ inl e ↦ is_one 34 (refl, refl, refl) c e | inr e34 ↦
-    elim (is_it c 92) [ inl e ↦ is_one 92 (refl, refl, refl) c e | inr e92 ↦
-    elim (is_it c 7) [ inl e ↦ is_one 7 (refl, refl, refl) c e | inr e7 ↦
-    elim (is_it c 8) [ inl e ↦ is_one 8 (refl, refl, refl) c e | inr e8 ↦
-    elim (is_it c 12) [ inl e ↦ is_one 12 (refl, refl, refl) c e | inr e12 ↦
-    elim (is_it c 10) [ inl e ↦ is_one 10 (refl, refl, refl) c e | inr e10 ↦
-    elim (is_it c 13) [ inl e ↦ is_one 13 (refl, refl, refl) c e | inr e13 ↦
-    elim (is_it c 9) [ inl e ↦ is_one 9 (refl, refl, refl) c e | inr e9 ↦
-    elim (is_it c 11) [ inl e ↦ is_one 11 (refl, refl, refl) c e | inr e11 ↦
-    inl (rw (e34, e92, e7, e8, e12, e10, e13, e9, e11) refl, e34, e92, e10)
-    ] ] ] ] ] ] ] ] ]
+    elim (is_it c 34) [
+      | inl e ↦ is_one 34 (refl, refl, refl) c e
+      | inr e34 ↦
+          elim (is_it c 92) [
+            | inl e ↦ is_one 92 (refl, refl, refl) c e
+            | inr e92 ↦
+                elim (is_it c 7) [
+                  | inl e ↦ is_one 7 (refl, refl, refl) c e
+                  | inr e7 ↦
+                      elim (is_it c 8) [
+                        | inl e ↦ is_one 8 (refl, refl, refl) c e
+                        | inr e8 ↦
+                            elim (is_it c 12) [
+                              | inl e ↦ is_one 12 (refl, refl, refl) c e
+                              | inr e12 ↦
+                                  elim (is_it c 10) [
+                                    | inl e ↦ is_one 10 (refl, refl, refl) c e
+                                    | inr e10 ↦
+                                        elim (is_it c 13) [
+                                          | inl e ↦ is_one 13 (refl, refl, refl) c e
+                                          | inr e13 ↦
+                                              elim (is_it c 9) [
+                                                | inl e ↦ is_one 9 (refl, refl, refl) c e
+                                                | inr e9 ↦
+                                                    elim (is_it c 11) [
+                                                      | inl e ↦ is_one 11 (refl, refl, refl) c e
+                                                      | inr e11 ↦
+                                                          inl (rw (e34, e92, e7, e8, e12, e10, e13, e9, e11) refl, e34, e92, e10)
+                                                    ]
+                                              ]
+                                        ]
+                                  ]
+                            ]
+                      ]
+                ]
+          ]
+    ]
 
 quote_behind : (cs rest : List ℕ) (place : ℕ) → quote_from false place (escaped cs ++ 34 ∷ rest) ≡ place + length (escaped cs)
 quote_behind [] rest place = omega arith
 quote_behind (c ∷ cs) rest place = elim (view c) [
-    | inl v ↦ rw (v.0, v.1, v.2) (quote_behind cs rest (place + 1) ∙ omega arith)
-    | inr v ↦ rw v.0 (quote_behind cs rest (place + 1 + 1) ∙ omega arith)
-  ]
+  | inl v ↦ rw (v.0, v.1, v.2) (quote_behind cs rest (place + 1) ∙ omega arith)
+  | inr v ↦ rw v.0 (quote_behind cs rest (place + 1 + 1) ∙ omega arith)
+]
 
 unescape_escaped : (cs done : List ℕ) → unescape (false, done) (escaped cs) ≡ Ok (done ++ cs)
 unescape_escaped [] done = ap Ok (sym (append-nil done))
 unescape_escaped (c ∷ cs) done = elim (view c) [
-    | inl v ↦ rw (v.0, v.2, v.3) (unescape_escaped cs (done ++ c ∷ []) ∙ ap Ok (append_assoc done (c ∷ []) cs))
-    | inr v ↦ rw (v.0, v.1, v.2) (unescape_escaped cs (done ++ c ∷ []) ∙ ap Ok (append_assoc done (c ∷ []) cs))
-  ]
+  | inl v ↦ rw (v.0, v.2, v.3) (unescape_escaped cs (done ++ c ∷ []) ∙ ap Ok (append_assoc done (c ∷ []) cs))
+  | inr v ↦ rw (v.0, v.1, v.2) (unescape_escaped cs (done ++ c ∷ []) ∙ ap Ok (append_assoc done (c ∷ []) cs))
+]
 
 pub text_back : (s : List ℕ) → in_utf8 s ≡ Ok s → text_of (escaped s) ≡ Ok s
 unfolding text_of

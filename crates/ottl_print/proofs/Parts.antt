@@ -158,10 +158,10 @@ module _ (behind : ℕ) where
       key_at behind h.0.1 >>= λ k. after_sign behind 93 Rattle.ottl_text.specs.declared.fault.FaultKind.TheVariants.NoClosingBracket k.1 >>= λ rest. keyed behind n (done ++ k.0 ∷ []) rest in
       elim (either_ok (is_the_sign 91 h.0.0) more (Ok (done, s)) (Ok r) h.2) [
         | inl w ↦
-          (let k = bind_ok (key_at behind h.0.1) _ r w.1 in
-          let a = bind_ok (after_sign behind 93 Rattle.ottl_text.specs.declared.fault.FaultKind.TheVariants.NoClosingBracket k.0.1) _ r k.2 in
-          let g = keyed_fine n (done ++ k.0.0 ∷ []) a.0 r (fine_append done k.0.0 f (key_at_fine h.0.1 k.0 k.1)) a.2 in
-          (g.0, omega (arith, g.1, length-append done (k.0.0 ∷ []))))
+            (let k = bind_ok (key_at behind h.0.1) _ r w.1 in
+            let a = bind_ok (after_sign behind 93 Rattle.ottl_text.specs.declared.fault.FaultKind.TheVariants.NoClosingBracket k.0.1) _ r k.2 in
+            let g = keyed_fine n (done ++ k.0.0 ∷ []) a.0 r (fine_append done k.0.0 f (key_at_fine h.0.1 k.0 k.1)) a.2 in
+            (g.0, omega (arith, g.1, length-append done (k.0.0 ∷ []))))
         | inr w ↦ (let same = same_ok (done, s) r w.1 in subst (λ q. FineKeys q.0 × (length q.0 < suc n + length done)) same (f, omega arith))
       ]
 

@@ -53,13 +53,7 @@ pub(crate) fn tightness(expression: &Expression) -> u8
                 6
             }
         }
-        Expression::Unary(unary, _) => {
-            if *unary == Unary::Not {
-                3
-            } else {
-                6
-            }
-        }
+        Expression::Unary(unary, _) => { if *unary == Unary::Not { 3 } else { 6 } }
         _ => 6,
     }
 }
@@ -79,7 +73,11 @@ fn inside(parentheses: bool, levels: usize) -> usize
     ensures small { result ≤ 201 }
     ensures same { (n : ℕ) → IsCapped levels n → IsCapped result (if parentheses then n + 1 else n) }
 {
-    if parentheses { capped(levels + 1) } else { levels }
+    if parentheses {
+        capped(levels + 1)
+    } else {
+        levels
+    }
 }
 
 /// The levels of an expression where operators have to bind at least so tight.
@@ -127,7 +125,11 @@ fn saves_levels(sparing: bool, left: &Expression, size: Size, right: usize) -> b
         → result ≡ spec.saves_levels sparing (term_of left.now) s n }
 {
     let is_long = size.levels < size.row + 2 + right;
-    if sparing && is_row(left) { is_long } else { false }
+    if sparing && is_row(left) {
+        is_long
+    } else {
+        false
+    }
 }
 
 /// Whether the operand on the left stands in parentheses, from its size and the levels of that on the right.
@@ -143,17 +145,15 @@ pub(crate) fn has_parentheses(
         → result ≡ spec.has_parentheses sparing binary (term_of left.now) s n }
 {
     let is_loose = tightness(left) < precedence(binary);
-    if is_loose { true } else { saves_levels(sparing, left, size, right) }
+    if is_loose {
+        true
+    } else {
+        saves_levels(sparing, left, size, right)
+    }
 }
 
 /// The size of two operands and the operator between them.
-fn operator_size(
-    sparing: bool,
-    binary: Binary,
-    left: &Expression,
-    size: Size,
-    right: usize,
-) -> Size
+fn operator_size(sparing: bool, binary: Binary, left: &Expression, size: Size, right: usize) -> Size
     requires { (size.levels ≤ 201) × (size.row ≤ 201) × (right ≤ 201) }
     ensures small { (result.levels ≤ 201) × (result.row ≤ 201) }
     ensures same { (s : spec.Size) (n : ℕ) → IsSizeOf s size.levels size.row → IsCapped right n

@@ -182,11 +182,7 @@ fn put_root(bytes: &mut Vec<u8>, context: Context, root: Root) -> Result<(), All
 }
 
 /// A path.
-pub(crate) fn put_path(
-    bytes: &mut Vec<u8>,
-    context: Context,
-    path: &Path,
-) -> Result<(), AllocError>
+pub(crate) fn put_path(bytes: &mut Vec<u8>, context: Context, path: &Path) -> Result<(), AllocError>
     ensures { OnOk result (bytes.new.items ≡ bytes.old.items ++ (root_name context path.now.root ++ spec.keys_text path.now.keys)) }
 {
     put_root(bytes, context, path.root)?;
