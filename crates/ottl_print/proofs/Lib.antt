@@ -1,0 +1,13 @@
+mod Pieces
+mod Marks
+mod Literals
+mod NamesBack
+mod Steps
+mod ReadsBack
+mod ReadsTree
+mod Parts
+mod Floats
+mod FromText
+mod Law
+mod Counted
+pub mod Rows

@@ -1,0 +1,9 @@
+//! The text of a condition's tree.
+#![tactic(auto)]
+
+mod laws;
+mod names;
+mod sizes;
+mod texts;
+
+pub use laws::prints_as_itself;
