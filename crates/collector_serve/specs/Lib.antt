@@ -1,8 +1,10 @@
 -- Sharing: how many connections each lane may have.
+-- Driven: what the lanes of a run did.
 -- Requests: what a configuration says of requests to a backend.
 -- Moments: which moment it is, by the time that has passed.
 -- Memory: when requests are refused since the process takes too much memory.
 pub mod Sharing
+pub mod Driven
 pub mod Requests
 pub mod Moments
 pub mod Memory

@@ -2,8 +2,10 @@
 ghost use Rattle.std.specs.Prelude.{◌≡◌, ◌<◌, ◌-◌, ◌^◌, All, IfOk, IfSome, is_none, vec_len};
 ghost use Rattle.pipeline.specs.Outcome.{SinkAnswers, has_begun};
 ghost use Rattle.pipeline.specs.Promise.{CoreRunTells};
+ghost use Rattle.run_weave.specs.Received.{receives_by_turns};
 ghost use Rattle.tsc_config.specs.Values.{InRange};
 ghost use Rattle.collector_serve.specs.Sharing.{share_of, allowed_by};
+ghost use Rattle.collector_serve.specs.Driven.{ServedRunTells};
 
 use crate::ticker::Ticker;
 use collector_board::Board;
@@ -69,8 +71,8 @@ fn listen_at<R: Net<Listener = TcpListener, Stream = TcpStream>>(
 
 /// Runs the collector on what drives its lanes, until a request says `POST /close`, which sets the mark, or it is set
 /// otherwise. It may be set already: then what is asked on a connection that waits is refused. It gives the sink back,
-/// and the report of all spans: what the threads did is a run of the core. The context's board shows the counts
-/// meanwhile. `NoMemory`: there was none at the start, or the system has no random source for the key by which trace
+/// and the report of all spans: what the threads did is a run of the core, and each lane did what its driver said, round
+/// by round. The context's board shows the counts meanwhile. `NoMemory`: there was none at the start, or the system has no random source for the key by which trace
 /// ids are hashed. Then no connection was taken, and the drivers come back as they were.
 pub fn serve_on<
     's,
@@ -94,6 +96,7 @@ pub fn serve_on<
     requires failures { Output.failures sink < 2 ^ 64 - 1 }
     ensures sink { SinkAnswers (Output.taken sink) (Output.failures sink) (Output.taken result.0) (Output.failures result.0) result.1 }
     ensures ran { CoreRunTells config (Output.taken sink) (Output.failures sink) (Output.taken result.0) (Output.failures result.0) result.1 }
+    ensures driven { ServedRunTells (receives_by_turns (λ (s : ByTurns Poller). s.allowed) (λ (s : ByTurns Poller). s.driver) Poller.asks Poller.hears) config drivers.items (Output.taken sink) (Output.failures sink) (Output.taken result.0) (Output.failures result.0) result.1 }
     ensures begun { is_none result.2 ≡ has_begun result.1 }
     ensures back { IfSome result.2 (λ back. back.items ≡ drivers.items) }
 {
