@@ -6,7 +6,7 @@ use Rattle.batch_post.specs.declared.rule.Retry.{Retry}
 use Rattle.batch_post.specs.declared.rule.RetryVerdict.TheVariants.{Taken, Waits, Ends}
 use Rattle.batch_post.specs.Rules.{next_wait, with_jitter, verdict_of}
 use Rattle.batch_post.specs.Logs.{tried, settled}
-use Rattle.batch_post.specs.Deliveries.{settled_bytes}
+use Rattle.batch_post.specs.Deliveries.{delivered_bytes}
 
 -- half a second at first, at most thirty, and five minutes in all
 abbrev usual : Retry
@@ -76,5 +76,5 @@ half_wait : with_jitter 1000 500 ≡ 500
 half_wait = refl
 
 -- a line that was tried twice and given up, and one that was delivered
-two_lines : settled_bytes (tried (65 ∷ []) NoAnswer ∷ tried (65 ∷ []) (Answered 400 None) ∷ settled (65 ∷ []) GivenUp ∷ tried (66 ∷ []) (Answered 200 None) ∷ settled (66 ∷ []) Delivered ∷ []) ≡ 65 ∷ 66 ∷ []
+two_lines : delivered_bytes (tried (65 ∷ []) NoAnswer ∷ tried (65 ∷ []) (Answered 400 None) ∷ settled (65 ∷ []) GivenUp ∷ tried (66 ∷ []) (Answered 200 None) ∷ settled (66 ∷ []) Delivered ∷ []) ≡ 66 ∷ []
 two_lines = refl

@@ -13,32 +13,21 @@ is_delivered Delivered = true
 is_delivered GivenUp = false
 
 -- A delivery of one batch: after each attempt but the last it may be tried again, and the last one says what becomes of
--- it. Where there is no fate it was tried in vain, and is no longer this log's: its caller was told that nothing was
--- taken.
+-- it.
 pub record Delivery : Type 0 where
   pub batch : List ℕ
   pub before : List AttemptOutcome
   pub last : AttemptOutcome
-  pub fate : Option BatchFate
-
--- the backend took the batch exactly where it was delivered
-abbrev pub is_taken_by : Option BatchFate → Bool
-is_taken_by None = false
-is_taken_by (Some fate) = is_delivered fate
+  pub fate : BatchFate
 
 -- this is how it may have gone
 pub record IsDelivery (d : Delivery) : Type 0 where
   pub again : list_all may_try_again d.before ≡ true
-  pub ends : is_taken d.last ≡ is_taken_by d.fate
-
--- the end that it leaves in the log
-abbrev pub end_of : (batch : List ℕ) → Option BatchFate → List LogEntry
-end_of batch None = []
-end_of batch (Some fate) = settled batch fate ∷ []
+  pub ends : is_taken d.last ≡ is_delivered d.fate
 
 -- what it leaves in the log
 abbrev pub entries : Delivery → List LogEntry
-entries d = attempts d.batch (d.before ++ d.last ∷ []) ++ end_of d.batch d.fate
+entries d = attempts d.batch (d.before ++ d.last ∷ []) ++ settled d.batch d.fate ∷ []
 
 -- a log is that of deliveries, one after the other
 abbrev pub IsLog : List LogEntry → Type 0
@@ -54,25 +43,18 @@ abbrev pub Delivers : (old new : Option (List LogEntry)) → (batch : List ℕ) 
 Delivers old new batch fate =
     (before : List AttemptOutcome) × (last : AttemptOutcome) × (list_all may_try_again before ≡ true) × (is_taken last ≡ is_delivered fate) × Grows old new (attempts batch (before ++ last ∷ []))
 
--- the bytes of the batches that were settled, in order
-abbrev pub settled_bytes : List LogEntry → List ℕ
-settled_bytes [] = []
-settled_bytes (tried batch outcome ∷ rest) = settled_bytes rest
-settled_bytes (settled batch fate ∷ rest) = batch ++ settled_bytes rest
+-- a batch was tried so, and settled
+abbrev pub Posts : (old new : Option (List LogEntry)) → (batch : List ℕ) → BatchFate → Type 0
+Posts old new batch fate = (mid : Option (List LogEntry)) × Delivers old mid batch fate × Grows mid new (settled batch fate ∷ [])
 
--- how many spans the batches have that were given up, where `are` says how many a batch has
-abbrev pub GivesUp : (are : List ℕ → ℕ → Type 0) → List LogEntry → (spans : ℕ) → Type 0
-GivesUp are [] spans = spans ≡ 0
-GivesUp are (tried batch outcome ∷ rest) spans = GivesUp are rest spans
-GivesUp are (settled batch Delivered ∷ rest) spans = GivesUp are rest spans
-GivesUp are (settled batch GivenUp ∷ rest) spans = (n : ℕ) × (m : ℕ) × are batch n × GivesUp are rest m × (spans ≡ n + m)
+-- the bytes of the batches that were delivered, in order
+abbrev pub delivered_bytes : List LogEntry → List ℕ
+delivered_bytes [] = []
+delivered_bytes (tried batch outcome ∷ rest) = delivered_bytes rest
+delivered_bytes (settled batch Delivered ∷ rest) = batch ++ delivered_bytes rest
+delivered_bytes (settled batch GivenUp ∷ rest) = delivered_bytes rest
 
 -- where the log is known
-abbrev pub KnownGivesUp : (are : List ℕ → ℕ → Type 0) → Option (List LogEntry) → (spans : ℕ) → Type 0
-KnownGivesUp are None spans = ⊤
-KnownGivesUp are (Some log) spans = GivesUp are log spans
-
--- the bytes that were settled, where the log is known
 abbrev pub known_bytes : Option (List LogEntry) → Option (List ℕ)
 known_bytes None = None
-known_bytes (Some log) = Some (settled_bytes log)
+known_bytes (Some log) = Some (delivered_bytes log)

@@ -1,7 +1,6 @@
 -- Reading order: Rules (what each answer means), Logs (what was tried and settled), Deliveries (what deliveries did),
--- Sinks (a sink whose lines are batches), Keeping (a sink that prints its lines, too).
+-- Posts (destinations whose lines are batches).
 pub mod Rules
 pub mod Logs
 pub mod Deliveries
-pub mod Sinks
-pub mod Keeping
+pub mod Posts

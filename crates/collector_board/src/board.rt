@@ -6,9 +6,8 @@ use lane_queue::{Brake, Gate, GatePlace, ShardLoad};
 use metrics_text::{PolicyNumbers, ShardNumbers};
 use otlp_types::{Text, TryClone};
 use policy_tree::Policies;
-use span_ids::Reason;
 use std::alloc::{AllocError, Global};
-use std::sync::atomic::{AtomicU64, Ordering};
+use std::sync::atomic::{AtomicBool, AtomicU64, Ordering};
 
 /// So many counts a report has.
 const PLACES: usize = 9;
@@ -75,10 +74,8 @@ pub struct Board {
     policies: Vec<PolicyCells>,
     late_sampled: AtomicU64,
     shards: Vec<ShardCells>,
-    /// Spans of the batch that the backend is given up for now, which the exporter counts as handed over.
-    pending: AtomicU64,
-    /// Spans that were given up since the backend didn't take them.
-    given_up: AtomicU64,
+    /// Whether a write of the output failed for good.
+    has_failed: AtomicBool,
     /// Spans that the backend rejected.
     rejected: AtomicU64,
     /// Attempts to send a line that were answered 200.
@@ -126,8 +123,7 @@ impl Board {
             policies,
             late_sampled: AtomicU64::new(0),
             shards: cells,
-            pending: AtomicU64::new(0),
-            given_up: AtomicU64::new(0),
+            has_failed: AtomicBool::new(false),
             rejected: AtomicU64::new(0),
             attempts_taken: AtomicU64::new(0),
             attempts_refused: AtomicU64::new(0),
@@ -149,15 +145,12 @@ impl Board {
             // The report's counts are 0 before.
             let _ = report.add(count, number);
         }
-        let given_up = self.given_up.load(Ordering::Relaxed);
-        // Spans are counted at one place only, so no sum passes 2^64-1.
-        let _ = report.add(Count::Dropped(Reason::ExporterDown), given_up);
         report
     }
 
     /// How many spans wait: those that were received, and were neither handed over nor given up.
     pub fn waiting(&self) -> u64 {
-        let mut ended = self.given_up.load(Ordering::Relaxed);
+        let mut ended = 0u64;
         for place in 1..PLACES {
             ended = ended.saturating_add(self.cell(place).load(Ordering::Relaxed));
         }
@@ -170,9 +163,9 @@ impl Board {
         self.lines.fetch_add(1, Ordering::Relaxed);
     }
 
-    /// The backend is given up for a batch of so many spans, which the exporter counts next as handed over.
-    pub fn gives_up(&self, spans: u64) {
-        self.pending.store(spans, Ordering::Relaxed);
+    /// A write of the output failed for good.
+    pub fn fails(&self) {
+        self.has_failed.store(true, Ordering::Relaxed);
     }
 
     /// The backend rejected so many spans of a batch that it took.
@@ -345,9 +338,9 @@ impl Board {
         &self.brake
     }
 
-    /// Whether a span was given up because the output failed.
+    /// Whether a write of the output failed for good.
     pub fn is_down(&self) -> bool {
-        self.exporter_down.load(Ordering::Relaxed) > 0
+        self.has_failed.load(Ordering::Relaxed)
     }
 
     /// The cell of the count that has this place in a report.
@@ -384,12 +377,7 @@ impl Gate for Board {
     }
 
     fn counted(&self, place: usize, spans: u64) {
-        let is_handed = place == Count::Handed.place();
-        if is_handed && self.pending.swap(0, Ordering::Relaxed) > 0 {
-            self.given_up.fetch_add(spans, Ordering::Relaxed);
-        } else {
-            self.cell(place).fetch_add(spans, Ordering::Relaxed);
-        }
+        self.cell(place).fetch_add(spans, Ordering::Relaxed);
     }
 
     fn takes_incomplete(&self) {

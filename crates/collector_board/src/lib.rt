@@ -10,16 +10,16 @@
 
 mod board;
 mod export_watch;
-mod line_spans;
 mod output_stall;
 mod stop_mark;
 mod stopping_sink;
+mod watched_destination;
 mod write_watch;
 
 pub use board::Board;
 pub use export_watch::ExportWatch;
-pub use line_spans::LineSpans;
 pub use output_stall::OutputStall;
 pub use stop_mark::{Closer, StopMark};
 pub use stopping_sink::StoppingSink;
+pub use watched_destination::WatchedDestination;
 pub use write_watch::WriteWatch;

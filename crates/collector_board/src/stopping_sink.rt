@@ -7,8 +7,8 @@ use http_lane::HasStopMark;
 use span_sink::{Sink, SinkFault};
 use std::time::Clock;
 
-/// A sink over another one. Where a write fails it sets a mark to stop, if it is told to, what was taken is told to a
-/// board, and while a write is under way others can tell for how long; what it takes and what it answers are those of
+/// A sink over another one. Where a write fails it tells a board, and sets a mark to stop, if it is told to; what was taken
+/// is told to the board, unless lines are sent, too, and counted there; and while a write is under way others can tell for how long; what it takes and what it answers are those of
 /// the other.
 #[derive(Drop)]
 pub struct StoppingSink<'s, S, P, R: Clock> {
@@ -17,17 +17,19 @@ pub struct StoppingSink<'s, S, P, R: Clock> {
     stop: &'s P,
     stops: bool,
     board: &'s Board,
+    are_sent: bool,
     stall: &'s OutputStall,
 }
 
 impl<'s, S: Sink, P: HasStopMark, R: Clock> StoppingSink<'s, S, P, R> {
-    /// A sink over this one; `stops`: a write that fails sets the mark.
+    /// A sink over this one; `stops`: a write that fails sets the mark; `are_sent`: the lines are sent, too.
     pub fn new(
         rt: &'s R,
         sink: S,
         stop: &'s P,
         stops: bool,
         board: &'s Board,
+        are_sent: bool,
         stall: &'s OutputStall,
     ) -> Self
         ensures { result.sink ≡ sink }
@@ -38,6 +40,7 @@ impl<'s, S: Sink, P: HasStopMark, R: Clock> StoppingSink<'s, S, P, R> {
             stop,
             stops,
             board,
+            are_sent,
             stall,
         }
     }
@@ -52,6 +55,7 @@ impl<'s, S: Sink, P: HasStopMark, R: Clock> StoppingSink<'s, S, P, R> {
             stop: _,
             stops: _,
             board: _,
+            are_sent: _,
             stall: _,
         } = self;
         sink
@@ -68,9 +72,14 @@ impl<'s, S: Sink, P: HasStopMark, R: Clock> Sink for StoppingSink<'s, S, P, R> {
         let answer = self.sink.write(bytes);
         self.stall.ends();
         match answer {
+            Ok(_) if self.are_sent => {}
             Ok(n) => self.board.wrote(bytes.get(..n).unwrap_or(b"")),
-            Err(_) if self.stops => self.stop.set(),
-            Err(_) => {}
+            Err(_) => {
+                self.board.fails();
+                if self.stops {
+                    self.stop.set();
+                }
+            }
         }
         answer
     }

@@ -3,7 +3,8 @@
 use Rattle.std.proofs.Common.{ℕ, List, Option, Result, Ok, Err}
 use Rattle.drop_ledger.specs.declared.report.Report.{Report}
 use Rattle.span_sink.specs.LineSinks.{LineSinkState}
-use Rattle.pipeline.specs.Promise.{IsCoreRun, IsCoreRunBeyond, CoreRunTells}
+use Rattle.pipeline.specs.Promise.{IsCoreRunTo, IsCoreRunBeyondTo, CoreRunTellsTo}
+use Rattle.span_sink.specs.Manners.{Manner}
 use Rattle.pipeline.specs.declared.fault.ServeFault.{ServeFault}
 use Rattle.pipeline.specs.declared.fault.ServeFault.TheVariants.{NoMemory, CounterOverflow, SinkDown}
 use Rattle.tsc_config.specs.declared.config.Config.{Config}
@@ -11,15 +12,15 @@ use Rattle.tsc_config.specs.declared.config.Config.{Config}
 abbrev pub with_room : Config → (room : ℕ) → Config
 with_room config room = record config { export_capacity = room }
 
-run : (config : Config) (room : ℕ) (old new : LineSinkState) (report : List ℕ) → IsCoreRun (with_room config room) old new report → IsCoreRun config old new report
-run config room old new report r = record { threads = r.threads; end = r.end; ran = r.ran; reports = r.reports; fits = r.fits; moments = r.moments; same_ticks = r.same_ticks; holds = r.holds }
+run : (manner : Manner) (config : Config) (room : ℕ) (old new : LineSinkState) (report : List ℕ) → IsCoreRunTo manner (with_room config room) old new report → IsCoreRunTo manner config old new report
+run manner config room old new report r = record { threads = r.threads; end = r.end; ran = r.ran; reports = r.reports; fits = r.fits; moments = r.moments; same_ticks = r.same_ticks; holds = r.holds }
 
-beyond : (config : Config) (room : ℕ) (old new : LineSinkState) → IsCoreRunBeyond (with_room config room) old new → IsCoreRunBeyond config old new
-beyond config room old new r = record { threads = r.threads; end = r.end; ran = r.ran; passes = r.passes; moments = r.moments; same_ticks = r.same_ticks; holds = r.holds }
+beyond : (manner : Manner) (config : Config) (room : ℕ) (old new : LineSinkState) → IsCoreRunBeyondTo manner (with_room config room) old new → IsCoreRunBeyondTo manner config old new
+beyond manner config room old new r = record { threads = r.threads; end = r.end; ran = r.ran; passes = r.passes; moments = r.moments; same_ticks = r.same_ticks; holds = r.holds }
 
-pub tells : (config : Config) (room : ℕ) (taken : Option (List ℕ)) (failures : ℕ) (taken_after : Option (List ℕ)) (failures_after : ℕ) (answer : Result Report ServeFault)
-    → CoreRunTells (with_room config room) taken failures taken_after failures_after answer → CoreRunTells config taken failures taken_after failures_after answer
-tells config room taken failures taken_after failures_after (Ok report) r = run config room _ _ report r
-tells config room taken failures taken_after failures_after (Err NoMemory) r = tt
-tells config room taken failures taken_after failures_after (Err CounterOverflow) r = (r.0, beyond config room _ _ r.1)
-tells config room taken failures taken_after failures_after (Err (SinkDown report)) r = run config room _ _ report r
+pub tells : (manner : Manner) (config : Config) (room : ℕ) (taken : Option (List ℕ)) (failures : ℕ) (taken_after : Option (List ℕ)) (failures_after : ℕ) (answer : Result Report ServeFault)
+    → CoreRunTellsTo manner (with_room config room) taken failures taken_after failures_after answer → CoreRunTellsTo manner config taken failures taken_after failures_after answer
+tells manner config room taken failures taken_after failures_after (Ok report) r = run manner config room _ _ report r
+tells manner config room taken failures taken_after failures_after (Err NoMemory) r = tt
+tells manner config room taken failures taken_after failures_after (Err CounterOverflow) r = (r.0, beyond manner config room _ _ r.1)
+tells manner config room taken failures taken_after failures_after (Err (SinkDown report)) r = run manner config room _ _ report r

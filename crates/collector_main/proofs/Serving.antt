@@ -7,7 +7,7 @@ use Rattle.pipeline.specs.declared.fault.ServeFault.TheVariants.{NoMemory, Count
 use Rattle.tsc_config.specs.declared.config.Config.{Config}
 use Rattle.collector_main.specs.Configuration.{IsConfigOf}
 use Rattle.collector_main.specs.Outcomes.{served_to}
-use Rattle.collector_main.specs.Ending.{Course, IsExportedTo, SendsTo, RunsTo, FilesTo, RanOn, Serves, prints, writes_file}
+use Rattle.collector_main.specs.Ending.{Course, SendsTo, RunsTo, FilesTo, RanOn, Serves, prints, writes_file}
 use Rattle.collector_main.specs.declared.program.Outcome.{Outcome}
 use Rattle.collector_main.specs.declared.program.Outcome.TheVariants.{CannotListen}
 
@@ -21,19 +21,13 @@ Serves-answered course (Err (SinkDown report)) ran = ran
 Serves-ran : (course : Course) (answer : Result Report ServeFault) (outcome : Outcome) → outcome ≡ served_to answer → RanOn course outcome → Serves course outcome
 Serves-ran course answer outcome is ran = subst (λ o. Serves course o) (sym is) (Serves-answered course answer (subst (λ o. RanOn course o) is ran))
 
--- what a run whose lines were sent answered
-Serves-sent : (course : Course) (answer : Result Report ServeFault) (given_up : ℕ) (outcome : Outcome) → IsExportedTo answer given_up outcome → RanOn course outcome → Serves course outcome
-Serves-sent course (Ok report) given_up outcome (inl told) ran = subst (λ o. Serves course o) (sym told.2) (subst (λ o. RanOn course o) told.2 ran)
-Serves-sent course (Ok report) given_up outcome (inr full) ran = subst (λ o. Serves course o) (sym full.1) (subst (λ o. RanOn course o) full.1 ran)
-Serves-sent course (Err fault) given_up outcome is ran = Serves-ran course (Err fault) outcome is ran
-
 -- nothing was done for want of memory, or since it couldn't be listened
 pub sends-starved : (config : Config) (lines : Bool) (taken taken_after : Option (List ℕ)) → config.export.lines ≡ lines → taken_after ≡ taken → SendsTo config taken taken_after (served_to (Err NoMemory))
-sends-starved config false taken taken_after is same = inl (is, same, inr (None, None, 0, Err NoMemory, 0, (refl, refl), tt, refl))
-sends-starved config true taken taken_after is same = inr (is, inr (0, Err NoMemory, 0, (same, refl), tt, refl))
+sends-starved config false taken taken_after is same = inl (is, same, None, None, inr (0, Err NoMemory, (refl, refl), tt, refl))
+sends-starved config true taken taken_after is same = inr (is, inr (0, Err NoMemory, (same, refl), tt, refl))
 
 pub sends-unheard : (config : Config) (lines : Bool) (taken : Option (List ℕ)) → config.export.lines ≡ lines → SendsTo config taken taken CannotListen
-sends-unheard config false taken is = inl (is, refl, inl refl)
+sends-unheard config false taken is = inl (is, refl, None, None, inl (refl, refl))
 sends-unheard config true taken is = inr (is, inl (refl, refl))
 
 runs-starved : (config : Config) (is : Bool) (taken : Option (List ℕ)) → prints config ≡ is → RunsTo config taken taken (served_to (Err NoMemory))
@@ -47,13 +41,13 @@ Serves-runs course config outcome read here unread (inl (printed, inl x)) = subs
 Serves-runs course config outcome read here unread (inl (printed, inr x)) =
     Serves-ran course x.1 outcome x.4
     (inl (record { config = config; is_read = read; printed = printed; here = here; failures_after = x.0; answer = x.1; sink = x.2; ran = x.3; unread = unread; outcome_is = x.4 }))
-Serves-runs course config outcome read here unread (inr (sent, inl (off, same, inl x))) = subst (λ o. Serves course o) (sym x) (config, read, (unread, same))
-Serves-runs course config outcome read here unread (inr (sent, inl (off, same, inr x))) =
-    Serves-sent course x.3 x.4 outcome x.7
-    (inr (inl (record { config = config; is_read = read; sent = sent; here = here; sends = inl (off, same, inr x); unread = unread })))
+Serves-runs course config outcome read here unread (inr (sent, inl (off, same, t, u, inl x))) = subst (λ o. Serves course o) (sym x.1) (config, read, (unread, same))
+Serves-runs course config outcome read here unread (inr (sent, inl (off, same, t, u, inr x))) =
+    Serves-ran course x.1 outcome x.4
+    (inr (inl (record { config = config; is_read = read; sent = sent; here = here; sends = inl (off, same, t, u, inr x); unread = unread })))
 Serves-runs course config outcome read here unread (inr (sent, inr (on, inl x))) = subst (λ o. Serves course o) (sym x.1) (config, read, (unread, x.0))
 Serves-runs course config outcome read here unread (inr (sent, inr (on, inr x))) =
-    Serves-sent course x.1 x.2 outcome x.5
+    Serves-ran course x.1 outcome x.4
     (inr (inl (record { config = config; is_read = read; sent = sent; here = here; sends = inr (on, inr x); unread = unread })))
 
 -- where a run came to whose lines went to a file
@@ -65,10 +59,10 @@ filed-runs : (course : Course) (config : Config) (outcome : Outcome) (before aft
     → RanOn course outcome → RunsTo config before after outcome → Serves course outcome
 filed-runs course config outcome before after read unread same ran (inl (printed, inl x)) = subst (λ o. Serves course o) (sym x.1) (config, read, (unread, same))
 filed-runs course config outcome before after read unread same ran (inl (printed, inr x)) = Serves-ran course x.1 outcome x.4 ran
-filed-runs course config outcome before after read unread same ran (inr (sent, inl (off, stays, inl x))) = subst (λ o. Serves course o) (sym x) (config, read, (unread, same))
-filed-runs course config outcome before after read unread same ran (inr (sent, inl (off, stays, inr x))) = Serves-sent course x.3 x.4 outcome x.7 ran
+filed-runs course config outcome before after read unread same ran (inr (sent, inl (off, stays, t, u, inl x))) = subst (λ o. Serves course o) (sym x.1) (config, read, (unread, same))
+filed-runs course config outcome before after read unread same ran (inr (sent, inl (off, stays, t, u, inr x))) = Serves-ran course x.1 outcome x.4 ran
 filed-runs course config outcome before after read unread same ran (inr (sent, inr (on, inl x))) = subst (λ o. Serves course o) (sym x.1) (config, read, (unread, same))
-filed-runs course config outcome before after read unread same ran (inr (sent, inr (on, inr x))) = Serves-sent course x.1 x.2 outcome x.5 ran
+filed-runs course config outcome before after read unread same ran (inr (sent, inr (on, inr x))) = Serves-ran course x.1 outcome x.4 ran
 
 pub Serves-files : (course : Course) (config : Config) (outcome : Outcome) → IsConfigOf course.file config → writes_file config ≡ true → course.unread_after ≡ course.unread
     → FilesTo config course.taken course.taken_after outcome → Serves course outcome

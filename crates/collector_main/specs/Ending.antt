@@ -16,7 +16,6 @@ use Rattle.collector_main.specs.declared.program.Outcome.TheVariants.{Done, Sink
 use Rattle.collector_main.specs.declared.program.Outcome.TheVariants as is
 use Rattle.collector_main.specs.declared.program.Command.{Command}
 use Rattle.collector_main.specs.declared.program.Command.TheVariants.{Replay, Serve, Validate, Close, Show, Help, Version}
-use Rattle.export_report.specs.Moves.{IsMoved, CannotMove}
 use Rattle.collector_main.specs.Outcomes.{outcome_of, served_to, exit_status}
 use Rattle.collector_main.specs.Configuration.{FileFails, IsConfigOf}
 use Rattle.collector_main.specs.Validating.{FileTells, fault_number}
@@ -27,7 +26,8 @@ use Rattle.config_shards.specs.Shards.{settings_by}
 use Rattle.script_session.specs.Replay.{ReplayRun, RunEnds}
 use Rattle.pipeline.specs.declared.fault.ServeFault.{ServeFault}
 use Rattle.pipeline.specs.Outcome.{SinkAnswers}
-use Rattle.pipeline.specs.Promise.{CoreRunTells}
+use Rattle.pipeline.specs.Promise.{CoreRunTells, CoreRunTellsTo}
+use Rattle.span_sink.specs.Manners.{Manner, takes_all, may_refuse, prints_refused}
 use Rattle.tsc_script.specs.Reads.{KnownReader}
 
 -- ---- the last text
@@ -210,46 +210,31 @@ pub record ServedTo (course : Course) (outcome : Outcome) : Type 0 where
   pub unread : course.unread_after ≡ course.unread
   pub outcome_is : outcome ≡ served_to answer
 
--- the number of spans, where it can be counted; else more than can be
-abbrev pub spans_of : Option ℕ → ℕ
-spans_of (Some spans) = spans
-spans_of None = 2 ^ 64
-
--- how the program ends after a run whose lines were sent to a backend, of which it gave up so many spans: they are
--- counted as given up, and not as handed over
-abbrev pub IsExportedTo : Result Report ServeFault → (given_up : ℕ) → Outcome → Type 0
-IsExportedTo (Ok report) given_up outcome =
-    ((told : List ℕ) × IsMoved given_up report told × (outcome ≡ Done told)) ⊎ (CannotMove given_up report × (outcome ≡ CounterOverflow))
-IsExportedTo (Err fault) given_up outcome = outcome ≡ served_to (Err fault)
-
--- by a configuration requests were taken, and the lines sent to a backend; or the address couldn't be listened at, or
--- there was no memory, and nothing was done
-abbrev pub ExportsTo : Config → Outcome → Type 0
-ExportsTo config outcome =
-    (outcome ≡ CannotListen)
-    ⊎ ((sink : Option (List ℕ)) × (sink_after : Option (List ℕ)) × (failures : ℕ) × (answer : Result Report ServeFault) × (given_up : ℕ)
-    × SinkAnswers sink 0 sink_after failures answer × CoreRunTells config sink 0 sink_after failures answer × IsExportedTo answer given_up outcome)
-
--- by a configuration requests were taken, and each line was printed before it was sent to a backend; or the address
--- couldn't be listened at, or there was no memory, and nothing was done
-abbrev pub KeepsTo : Config → (taken taken_after : Option (List ℕ)) → Outcome → Type 0
-KeepsTo config taken taken_after outcome =
+-- By a configuration requests were taken, and the run, whose destination is of this manner and took these bytes, had an
+-- answer of this outcome; what its threads did is a run of the core. Or the address couldn't be listened at, and nothing
+-- was done.
+abbrev pub TakesTo : Manner → Config → (taken taken_after : Option (List ℕ)) → Outcome → Type 0
+TakesTo manner config taken taken_after outcome =
     ((taken_after ≡ taken) × (outcome ≡ CannotListen))
-    ⊎ ((failures : ℕ) × (answer : Result Report ServeFault) × (given_up : ℕ)
-    × SinkAnswers taken 0 taken_after failures answer × CoreRunTells config taken 0 taken_after failures answer × IsExportedTo answer given_up outcome)
+    ⊎ ((failures : ℕ) × (answer : Result Report ServeFault)
+    × SinkAnswers taken 0 taken_after failures answer × CoreRunTellsTo manner config taken 0 taken_after failures answer × (outcome ≡ served_to answer))
+
+-- the lines were sent to a backend
+abbrev pub ExportsTo : Config → Outcome → Type 0
+ExportsTo config outcome = (taken : Option (List ℕ)) × (taken_after : Option (List ℕ)) × TakesTo may_refuse config taken taken_after outcome
+
+-- each line was printed before it was sent to a backend
+abbrev pub KeepsTo : Config → (taken taken_after : Option (List ℕ)) → Outcome → Type 0
+KeepsTo = TakesTo prints_refused
 
 -- the lines were sent, and printed too where the configuration says so; else nothing was printed
 abbrev pub SendsTo : Config → (taken taken_after : Option (List ℕ)) → Outcome → Type 0
 SendsTo config taken taken_after outcome =
     ((config.export.lines ≡ false) × (taken_after ≡ taken) × ExportsTo config outcome) ⊎ ((config.export.lines ≡ true) × KeepsTo config taken taken_after outcome)
 
--- by a configuration requests were taken, and the run had an answer of this outcome; or the address couldn't be
--- listened at, and nothing was done
+-- the lines were printed
 abbrev pub PrintsTo : Config → (taken taken_after : Option (List ℕ)) → Outcome → Type 0
-PrintsTo config taken taken_after outcome =
-    ((taken_after ≡ taken) × (outcome ≡ CannotListen))
-    ⊎ ((failures : ℕ) × (answer : Result Report ServeFault) × SinkAnswers taken 0 taken_after failures answer × CoreRunTells config taken 0 taken_after failures answer
-    × (outcome ≡ served_to answer))
+PrintsTo = TakesTo takes_all
 
 -- the lines were printed where the configuration says nowhere to send them; else they were sent
 abbrev pub RunsTo : Config → (taken taken_after : Option (List ℕ)) → Outcome → Type 0

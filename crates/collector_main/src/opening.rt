@@ -54,7 +54,6 @@ pub fn charge_of(
         stop: StopMark::new(),
         over: StopMark::new(),
         board: Board::new(alloc, config.shards, &config.policies)?,
-        silent: Board::new(alloc, config.shards, &config.policies)?,
         loads: Arc::new(alloc, Loads::new(alloc, config.lanes as usize)?)?,
         admin: config.admin.try_clone(alloc)?,
         reopen: ReopenMark::new(),

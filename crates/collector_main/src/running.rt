@@ -10,7 +10,7 @@ use collector_board::StoppingSink;
 use collector_serve::{Charge, SteadyClock, drivers, serve_on};
 use drop_ledger::Report;
 use pipeline::{Machine, RunContext, ServeFault};
-use span_sink::WriteSink;
+use span_sink::{LineSink, WriteSink};
 use std::alloc::Global;
 use std::io::{ErrorKind, Write};
 use std::net::{Net, TcpListener, TcpStream};
@@ -66,8 +66,10 @@ fn print_with<'s, T: Net + Machine, W: Write + Drop>(
         &shared.stop,
         stops,
         &shared.board,
+        false,
         &shared.stall,
     );
+    let lines = LineSink::new(sink);
     let context = RunContext {
         rt,
         alloc,
@@ -75,7 +77,8 @@ fn print_with<'s, T: Net + Machine, W: Write + Drop>(
         stop: &shared.stop,
         clock: &clock,
     };
-    let (sink, answer, _) = serve_on(&context, config, drivers, sink);
+    let (lines, answer, _) = serve_on(&context, config, drivers, lines);
+    let sink = lines.end();
     let written = sink.end();
     (written.end(), served_to(answer))
 }

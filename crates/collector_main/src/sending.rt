@@ -1,17 +1,16 @@
 //! The run of a collector whose lines are sent to a backend.
-ghost use Rattle.std.specs.Prelude.{◌≡◌, ◌<◌, ◌-◌, ◌^◌, vec_len};
+ghost use Rattle.std.specs.Prelude.{◌≡◌, false, vec_len};
 ghost use Rattle.tsc_config.specs.Values.{InRange};
 ghost use Rattle.pipeline.specs.Outcome.{SinkAnswers};
-ghost use Rattle.pipeline.specs.Promise.{CoreRunTells};
-ghost use Rattle.collector_main.specs.Ending.{SendsTo, ExportsTo, KeepsTo, IsExportedTo, spans_of};
+ghost use Rattle.pipeline.specs.Promise.{CoreRunTellsTo};
+ghost use Rattle.collector_main.specs.Ending.{SendsTo, ExportsTo, KeepsTo};
 
 use crate::program::Outcome;
 use crate::running::served_to;
-use batch_post::{BatchSink, KeepingSink, Retry};
-use collector_board::{ExportWatch, LineSpans, StoppingSink};
+use batch_post::{Posts, PrintedPosts, Retry};
+use collector_board::{ExportWatch, OutputStall, StoppingSink, WatchedDestination};
 use collector_serve::{Charge, SteadyClock, drivers, request_fields, serve_on, with_export_room};
 use drop_ledger::Report;
-use export_report::moved;
 use http1::Header;
 use lane_turns::Driver;
 use lane_worker::ByTurns;
@@ -20,7 +19,7 @@ use otlp_types::TryClone;
 use pipeline::{Machine, RunContext, ServeFault};
 use post_http::endpoint_of;
 use post_socket::{BackendSettings, SocketBackend};
-use span_sink::{Sink, WriteSink};
+use span_sink::{Destination, LineSink, WriteSink};
 use std::alloc::Global;
 use std::io::{ErrorKind, Write};
 use std::net::{Net, TcpListener, TcpStream};
@@ -104,10 +103,10 @@ fn export_on<
 {
     let watch = ExportWatch::new(&shared.stop, &shared.board);
     let backend = SocketBackend::new(rt, alloc, settings, &watch);
-    let spans = LineSpans::new(alloc, &shared.board);
-    let batches = BatchSink::new(rt, retry_by(&config), backend, spans);
-    let (batches, answer) = serve_through(rt, alloc, config, drivers, batches, shared);
-    exported_to(answer, Some(batches.given_up()))
+    let posts = Posts::new(rt, retry_by(&config), backend);
+    let watched = WatchedDestination::new(rt, posts, &shared.stall);
+    let (_, answer) = serve_through(rt, alloc, config, drivers, watched, shared);
+    served_to(answer)
 }
 
 /// Takes requests by a configuration, prints the lines, and sends them to a backend with these settings.
@@ -131,36 +130,46 @@ fn keep_on<
 {
     let watch = ExportWatch::new(&shared.stop, &shared.board);
     let backend = SocketBackend::new(rt, alloc, settings, &watch);
-    let spans = LineSpans::new(alloc, &shared.board);
-    let batches = BatchSink::new(rt, retry_by(&config), backend, spans);
-    let kept = KeepingSink::new(WriteSink::new(writer), batches);
-    let (kept, answer) = serve_through(rt, alloc, config, drivers, kept, shared);
-    let (printed, sent) = kept.end();
-    let is_down = sent.is_down();
-    let counted = sent.end().given_up();
-    // Where the sending failed, a batch was to be given up whose spans can't be counted.
-    let given_up = if is_down { None } else { Some(counted) };
-    (printed.end(), exported_to(answer, given_up))
+    let posts = Posts::new(rt, retry_by(&config), backend);
+    let stops = config.output_fault == OutputFault::Stop;
+    // For how long a line is under way is told of printing and sending together.
+    let unread = OutputStall::new();
+    let written = WriteSink::new(writer);
+    let sink = StoppingSink::new(
+        rt,
+        written,
+        &shared.stop,
+        stops,
+        &shared.board,
+        true,
+        &unread,
+    );
+    let both = PrintedPosts::new(LineSink::new(sink), posts);
+    let watched = WatchedDestination::new(rt, both, &shared.stall);
+    let (watched, answer) = serve_through(rt, alloc, config, drivers, watched, shared);
+    let both = watched.end();
+    let lines = both.end();
+    let sink = lines.end();
+    let written = sink.end();
+    (written.end(), served_to(answer))
 }
 
-/// Takes requests by a configuration that says how many batches wait for a backend, and hands the lines to a sink.
-fn serve_through<'s, D: Driver + Send + Drop, T: Machine, S: Sink + Drop>(
+/// Takes requests by a configuration that says how many batches wait for a backend, and hands the lines to a destination.
+fn serve_through<'s, D: Driver + Send + Drop, T: Machine, Output: Destination + Drop>(
     rt: &T,
     alloc: Global,
     config: Config,
     drivers: Vec<ByTurns<D>>,
-    sink: S,
+    destination: Output,
     shared: &'s Charge,
-) -> (S, Result<Report, ServeFault>)
+) -> (Output, Result<Report, ServeFault>)
     requires ranges { InRange config }
     requires drivers { vec_len drivers ≡ config.lanes }
-    requires failures { S.failures sink < 2 ^ 64 - 1 }
-    ensures sink { SinkAnswers (S.taken sink) (S.failures sink) (S.taken result.0) (S.failures result.0) result.1 }
-    ensures ran { CoreRunTells config (S.taken sink) (S.failures sink) (S.taken result.0) (S.failures result.0) result.1 }
+    requires up { (Output.state destination).is_down ≡ false }
+    ensures sink { SinkAnswers (Output.state destination).taken (Output.state destination).failures (Output.state result.0).taken (Output.state result.0).failures result.1 }
+    ensures ran { CoreRunTellsTo Output.manner config (Output.state destination).taken (Output.state destination).failures (Output.state result.0).taken (Output.state result.0).failures result.1 }
 {
     let clock = SteadyClock::new(rt);
-    let stops = config.output_fault == OutputFault::Stop;
-    let sink = StoppingSink::new(rt, sink, &shared.stop, stops, &shared.silent, &shared.stall);
     let config = with_export_room(config);
     let context = RunContext {
         rt,
@@ -169,8 +178,8 @@ fn serve_through<'s, D: Driver + Send + Drop, T: Machine, S: Sink + Drop>(
         stop: &shared.stop,
         clock: &clock,
     };
-    let (sink, answer, _) = serve_on(&context, config, drivers, sink);
-    (sink.end(), answer)
+    let (destination, answer, _) = serve_on(&context, config, drivers, destination);
+    (destination, answer)
 }
 
 /// For how long a batch is tried.
@@ -181,22 +190,5 @@ fn retry_by(config: &Config) -> Retry
         initial: config.export.retry_initial,
         longest: config.export.retry_max,
         patience: config.export.retry_for,
-    }
-}
-
-/// How the program ends after a run whose lines were sent to a backend, of which it gave up so many spans, or more than
-/// can be counted.
-fn exported_to(answer: Result<Report, ServeFault>, given_up: Option<u64>) -> Outcome
-    ensures { IsExportedTo answer (spans_of given_up) result }
-{
-    let Ok(report) = answer else {
-        return served_to(answer);
-    };
-    let Some(given_up) = given_up else {
-        return Outcome::CounterOverflow;
-    };
-    match moved(&report, given_up) {
-        Ok(report) => Outcome::Done(report),
-        Err(_) => Outcome::CounterOverflow,
     }
 }

@@ -8,12 +8,13 @@ use Rattle.lane_worker.specs.Serving.{LaneAt}
 use Rattle.tsc_config.specs.declared.config.Config.{Config}
 use Rattle.pipeline.specs.declared.fault.ServeFault.{ServeFault}
 use Rattle.pipeline.specs.declared.fault.ServeFault.TheVariants.{NoMemory, CounterOverflow, SinkDown}
-use Rattle.pipeline.specs.Promise.{RunTells}
+use Rattle.pipeline.specs.Promise.{RunTellsTo}
+use Rattle.span_sink.specs.Manners.{Manner}
 use Rattle.collector_serve.specs.Driven.{ServedRunTells}
 
-module _ {F T : Type 0} (receives : ℕ → F → LaneAt → List Arrival → F → LaneAt → List Arrival → Bool → Type 0) (ticks_give : T → Option ℕ → T → Type 0) (config : Config) (servers : List F) (ticks : T) where
-  pub served_told : (taken : Option (List ℕ)) (failures : ℕ) (taken_after : Option (List ℕ)) (failures_after : ℕ) (answer : Result Report ServeFault) → RunTells receives ticks_give config servers ticks taken failures taken_after failures_after answer
-      → ServedRunTells receives config servers taken failures taken_after failures_after answer
+module _ (manner : Manner) {F T : Type 0} (receives : ℕ → F → LaneAt → List Arrival → F → LaneAt → List Arrival → Bool → Type 0) (ticks_give : T → Option ℕ → T → Type 0) (config : Config) (servers : List F) (ticks : T) where
+  pub served_told : (taken : Option (List ℕ)) (failures : ℕ) (taken_after : Option (List ℕ)) (failures_after : ℕ) (answer : Result Report ServeFault) → RunTellsTo manner receives ticks_give config servers ticks taken failures taken_after failures_after answer
+      → ServedRunTells manner receives config servers taken failures taken_after failures_after answer
   served_told taken failures taken_after failures_after (Ok report) h = record {
     core = record { threads = h.ran.threads; end = h.ran.end; ran = h.ran.ran; reports = h.reports; fits = h.fits; moments = h.ran.moments; same_ticks = h.ran.same_ticks; holds = h.holds };
     lanes = record { stopped = h.ran.stopped; ran = h.ran.lanes_ran };

@@ -26,8 +26,6 @@ pub struct Charge {
     pub over: StopMark,
     /// The counts while it runs.
     pub board: Board,
-    /// A board that nobody reads, for a sink whose lines are told otherwise.
-    pub silent: Board,
     /// Since when a write of the output has been under way.
     pub stall: OutputStall,
     /// How many connections each lane has.

@@ -1,7 +1,7 @@
 //! The collector on a listener.
-ghost use Rattle.std.specs.Prelude.{◌≡◌, ◌<◌, ◌-◌, ◌^◌, All, IfOk, IfSome, is_none, vec_len};
+ghost use Rattle.std.specs.Prelude.{◌≡◌, ◌<◌, false, All, IfOk, IfSome, is_none, vec_len};
 ghost use Rattle.pipeline.specs.Outcome.{SinkAnswers, has_begun};
-ghost use Rattle.pipeline.specs.Promise.{CoreRunTells};
+ghost use Rattle.pipeline.specs.Promise.{CoreRunTellsTo};
 ghost use Rattle.run_weave.specs.Received.{receives_by_turns};
 ghost use Rattle.tsc_config.specs.Values.{InRange};
 ghost use Rattle.collector_serve.specs.Sharing.{share_of, allowed_by};
@@ -15,8 +15,8 @@ use http_text::Allowed;
 use lane_driver::{ConnectionShare, Loads, TurnDriver};
 use lane_turns::Driver;
 use lane_worker::ByTurns;
-use pipeline::{Machine, RunContext, ServeFault, run_by_turns};
-use span_sink::Sink;
+use pipeline::{Machine, RunContext, ServeFault, run_by_turns_to};
+use span_sink::Destination;
 use std::alloc::Global;
 use std::io;
 use std::io::ErrorKind;
@@ -70,14 +70,15 @@ fn listen_at<R: Net<Listener = TcpListener, Stream = TcpStream>>(
 }
 
 /// Runs the collector on what drives its lanes, until a request says `POST /close`, which sets the mark, or it is set
-/// otherwise. It may be set already: then what is asked on a connection that waits is refused. It gives the sink back,
-/// and the report of all spans: what the threads did is a run of the core, and each lane did what its driver said, round
-/// by round. The context's board shows the counts meanwhile. `NoMemory`: there was none at the start, or the system has no random source for the key by which trace
+/// otherwise. It may be set already: then what is asked on a connection that waits is refused. It gives the
+/// destination back, and the report of all spans: what the threads did is a run of the core, and each lane did what its
+/// driver said, round by round. The context's board shows the counts meanwhile. `NoMemory`: there was none at the start,
+/// or the system has no random source for the key by which trace
 /// ids are hashed. Then no connection was taken, and the drivers come back as they were.
 pub fn serve_on<
     's,
     Poller: Driver + Send + Drop,
-    Output: Sink + Drop,
+    Output: Destination + Drop,
     Mark: HasStopMark + Sync,
     Time: Moments + Sync,
     Runtime: Machine,
@@ -85,7 +86,7 @@ pub fn serve_on<
     context: &RunContext<'s, Board, Mark, Time, Runtime>,
     config: Config,
     drivers: Vec<ByTurns<Poller>>,
-    sink: Output,
+    destination: Output,
 ) -> (
     Output,
     Result<Report, ServeFault>,
@@ -93,20 +94,20 @@ pub fn serve_on<
 )
     requires ranges { InRange config }
     requires drivers { vec_len drivers ≡ config.lanes }
-    requires failures { Output.failures sink < 2 ^ 64 - 1 }
-    ensures sink { SinkAnswers (Output.taken sink) (Output.failures sink) (Output.taken result.0) (Output.failures result.0) result.1 }
-    ensures ran { CoreRunTells config (Output.taken sink) (Output.failures sink) (Output.taken result.0) (Output.failures result.0) result.1 }
-    ensures driven { ServedRunTells (receives_by_turns (λ (s : ByTurns Poller). s.allowed) (λ (s : ByTurns Poller). s.driver) Poller.asks Poller.hears) config drivers.items (Output.taken sink) (Output.failures sink) (Output.taken result.0) (Output.failures result.0) result.1 }
+    requires up { (Output.state destination).is_down ≡ false }
+    ensures sink { SinkAnswers (Output.state destination).taken (Output.state destination).failures (Output.state result.0).taken (Output.state result.0).failures result.1 }
+    ensures ran { CoreRunTellsTo Output.manner config (Output.state destination).taken (Output.state destination).failures (Output.state result.0).taken (Output.state result.0).failures result.1 }
+    ensures driven { ServedRunTells Output.manner (receives_by_turns (λ (s : ByTurns Poller). s.allowed) (λ (s : ByTurns Poller). s.driver) Poller.asks Poller.hears) config drivers.items (Output.state destination).taken (Output.state destination).failures (Output.state result.0).taken (Output.state result.0).failures result.1 }
     ensures begun { is_none result.2 ≡ has_begun result.1 }
     ensures back { IfSome result.2 (λ back. back.items ≡ drivers.items) }
 {
     let ticks = Ticker::new(config.tick, context.clock, context.stop);
-    let (sink, answer, back) = run_by_turns(context, config, drivers, ticks, sink);
+    let (destination, answer, back) = run_by_turns_to(context, config, drivers, ticks, destination);
     let back = match back {
         Some((drivers, _)) => Some(drivers),
         None => None,
     };
-    (sink, answer, back)
+    (destination, answer, back)
 }
 
 /// How many connections a lane may have.

@@ -109,14 +109,14 @@ stands_at (x ∷ ds) (suc i) d e = Split-cons d x ds (stands_at ds i d e)
 abbrev CountsOther : CoreConfig → World → Type 0
 CountsOther c w = Samples c.shard → Each IsOther w.counted
 
-batch_other : (w : World) (r : Reason) → drop_batch_applies w r ≡ true → is_against r ≡ false
-batch_other w NoMemory e = refl
-batch_other w ExporterDown e = refl
-batch_other w InvalidId e = refl
-batch_other w QueueFull e = refl
-batch_other w Evicted e = refl
-batch_other w DecidedAgainst e = absurd (cc e)
-batch_other w LateNotSampled e = absurd (cc e)
+batch_other : (c : CoreConfig) (w : World) (r : Reason) → drop_batch_applies c w r ≡ true → is_against r ≡ false
+batch_other c w NoMemory e = refl
+batch_other c w ExporterDown e = refl
+batch_other c w InvalidId e = refl
+batch_other c w QueueFull e = refl
+batch_other c w Evicted e = refl
+batch_other c w DecidedAgainst e = absurd (cc e)
+batch_other c w LateNotSampled e = absurd (cc e)
 
 module _ (c : CoreConfig) (room : HasRoom c.shard.num_traces) (w : World) (h : CountsOther c w) (all : Samples c.shard) where
   abbrev Holds : World → Type 0
@@ -139,7 +139,7 @@ module _ (c : CoreConfig) (room : HasRoom c.shard.num_traces) (w : World) (h : C
   keeps next (pulled a rest u e) = subst Holds e (h all)
   keeps next (handed_over b d e) = subst Holds e (h all)
   keeps next (failed d e) = subst Holds e (h all)
-  keeps next (batch_dropped r b a e) = subst Holds e (more _ (counts_other r (batch_other w r a) w.batch))
+  keeps next (batch_dropped r b a e) = subst Holds e (more _ (counts_other r (batch_other c w r a) w.batch))
 
 none_under : (reason : Reason) (counted : List DroppedSpan) → Each (λ (n : DroppedSpan). is_same_reason n.reason reason ≡ false) counted → under reason counted ≡ []
 none_under reason [] h = refl

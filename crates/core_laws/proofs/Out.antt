@@ -9,7 +9,7 @@ use Rattle.span_ids.specs.declared.outcome.Verdict.TheVariants.{Sampled}
 use Rattle.span_ids.specs.declared.outcome.Reason.TheVariants.{InvalidId, QueueFull, NoMemory, Evicted, NotSampled, LateNotSampled, ExporterDown}
 use Rattle.journal_theory.specs.Journal.{Settings, Journal, Decision, notes, decisions_now, after_item}
 use Rattle.journal_theory.specs.Fate.{Fate, is_released, effect_of_verdict}
-use Rattle.world_theory.specs.World.{CoreConfig, CoreLane, CoreShard, World, settings, has_due, same_key}
+use Rattle.world_theory.specs.World.{may_give_up, CoreConfig, CoreLane, CoreShard, World, settings, has_due, same_key}
 use Rattle.world_theory.specs.Places.{Place, is_waiting, unrouted, queued, buffered, unshipped, exported, in_batch, handed, counted_under, HeldKey, held, places, IsClosed}
 use Rattle.world_theory.specs.Headline.{OfEachRun, TakenSpan, fate_of, WasReceived, is_received, is_where, is_past_release, HoldsOf}
 use Rattle.world_theory.proofs.Parts.{headline}
@@ -65,14 +65,14 @@ lane_of w k e =
     let a = any_hit (λ (a : Arrival). same_key a.key k) l.0.received l.2 in
     (a.0, record { lane = length l.1.front; of = l.0; in_world = ap (λ (ls : List CoreLane). slice_get ls (length l.1.front)) l.1.is ∙ got_at l.0 l.1.front l.1.back; has = split_contains a.0 l.0.received a.1 }, same_key_is a.0.key k a.2)
 
--- what is counted for the sink is so where the sink failed
-down_at : (c : CoreConfig) (w : World) → HoldsOf c w → (k : ArrivalKey) → places c w k ≡ counted_under ExporterDown ∷ [] → w.down ≡ true
+-- what is counted for the destination is so where that may refuse or is down
+down_at : (c : CoreConfig) (w : World) → HoldsOf c w → (k : ArrivalKey) → places c w k ≡ counted_under ExporterDown ∷ [] → may_give_up c w.down ≡ true
 down_at c w h k e = by_received (is_received w k) refl
   where
-    never : (places c w k ≡ []) → w.down ≡ true
+    never : (places c w k ≡ []) → may_give_up c w.down ≡ true
     never n = absurd (cc (e, n))
 
-    by_received : (b : Bool) → is_received w k ≡ b → w.down ≡ true
+    by_received : (b : Bool) → is_received w k ≡ b → may_give_up c w.down ≡ true
     by_received false r = never (h.one_place.others k r)
     by_received true r =
         let a = lane_of w k r in

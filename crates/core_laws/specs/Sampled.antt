@@ -8,13 +8,14 @@ use Rattle.span_ids.specs.declared.outcome.Verdict.TheVariants.{Sampled}
 use Rattle.span_ids.specs.declared.outcome.Reason.TheVariants.{NoMemory, ExporterDown, NotSampled, LateNotSampled}
 use Rattle.journal_theory.specs.Journal.{Decision, is_of_trace, notes, remembered}
 use Rattle.journal_theory.specs.Fate.{under}
-use Rattle.world_theory.specs.World.{CoreConfig, CoreShard, World, settings}
+use Rattle.world_theory.specs.World.{may_give_up, CoreConfig, CoreShard, World, settings}
 use Rattle.world_theory.specs.Places.{handed, counted_under, places, IsClosed}
 use Rattle.world_theory.specs.Headline.{TakenSpan, handed_spans}
 
--- the span was handed over, once; or its batch was given up, for want of memory or because the sink had failed
+-- the span was handed over, once; or its batch was given up, for want of memory, or because its destination
+-- refused it or was down
 abbrev pub IsOut : CoreConfig → World → Arrival → Type 0
-IsOut c w a = (places c w a.key ≡ handed ∷ []) ⊎ (places c w a.key ≡ counted_under NoMemory ∷ []) ⊎ ((places c w a.key ≡ counted_under ExporterDown ∷ []) × (w.down ≡ true))
+IsOut c w a = (places c w a.key ≡ handed ∷ []) ⊎ (places c w a.key ≡ counted_under NoMemory ∷ []) ⊎ ((places c w a.key ≡ counted_under ExporterDown ∷ []) × (may_give_up c w.down ≡ true))
 
 -- in a closed world each span of a decision to sample is out
 abbrev pub SampledComesOut : CoreConfig → World → Type 0

@@ -4,6 +4,7 @@ use Rattle.std.proofs.Common.{◌≡◌, ◌⊎◌, ℕ, zero, suc, ◌+◌, ◌
 use Rattle.std.specs.Prelude.{replicate}
 use Rattle.std.specs.List.{concat, list_any}
 use Rattle.span_sink.specs.LineSinks.{LineSinkState}
+use Rattle.span_sink.specs.Manners.{Manner}
 use Rattle.span_sink.specs.Hands.{Handing, TookLines, StopsWithin, handed_lines}
 use Rattle.pipeline.specs.declared.fault.ServeFault.{ServeFault}
 use Rattle.pipeline.specs.declared.fault.ServeFault.TheVariants.{NoMemory, CounterOverflow, SinkDown}
@@ -15,8 +16,8 @@ failed_once : (old new : LineSinkState) (calls : List Handing) (part : List ℕ)
 failed_once old new calls part up (inl e) = subst (λ down. new.failures ≡ (if down then old.failures + 1 else old.failures)) (sym (e.1 ∙ up)) e.2
 failed_once old new calls part up (inr e) = subst (λ down. new.failures ≡ (if down then old.failures + 1 else old.failures)) (sym e.1) e.2
 
-pub went : (old new : LineSinkState) (calls : List Handing) → old.is_down ≡ false → TookLines old calls new → SinkWent old new
-went old new calls up took = ((concat (handed_lines calls) ++ took.part, took.bytes), failed_once old new calls took.part up took.ends)
+pub went : (manner : Manner) (old new : LineSinkState) (calls : List Handing) → old.is_down ≡ false → TookLines manner old calls new → SinkWent old new
+went manner old new calls up took = ((concat (handed_lines manner calls) ++ took.part, took.bytes), failed_once old new calls took.part up took.ends)
 
 down_or_up : (old new : LineSinkState) → new.failures ≡ (if new.is_down then old.failures + 1 else old.failures) → (down : Bool) → new.is_down ≡ down → (new.failures ≡ old.failures) ⊎ (new.failures ≡ old.failures + 1)
 down_or_up old new e true down = inr (e ∙ ap (λ b. if b then old.failures + 1 else old.failures) down)

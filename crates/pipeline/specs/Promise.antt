@@ -9,6 +9,7 @@ use Rattle.policy_tree.specs.Meaning.{meaning}
 use Rattle.policy_tree.specs.Tree.{limiters}
 use Rattle.shard_core.specs.Held.{Held, settings}
 use Rattle.span_exporter.specs.Exports.{ExporterState}
+use Rattle.span_sink.specs.Manners.{Manner, takes_all}
 use Rattle.span_sink.specs.LineSinks.{LineSinkState, up_state, down_state}
 use Rattle.config_shards.specs.Shards.{settings_by}
 use Rattle.world_theory.specs.World.{CoreConfig, settings_for}
@@ -21,9 +22,13 @@ use Rattle.pipeline.specs.declared.fault.ServeFault.{ServeFault}
 use Rattle.pipeline.specs.declared.fault.ServeFault.TheVariants.{NoMemory, CounterOverflow, SinkDown}
 use Rattle.pipeline.specs.Outcome.{TellsCounts, TellsSink}
 
--- the core's configuration: each shard has its share of the traces and of the caches
+-- the core's configuration, with a destination of this manner: each shard has its share of the traces and of the caches
+abbrev pub core_to : Manner → Config → CoreConfig
+core_to manner config = record { shard = settings_by config; batch_size = config.send_batch_size; manner = manner }
+
+-- the same where lines are the destination
 abbrev pub core_of : Config → CoreConfig
-core_of config = record { shard = settings_by config; batch_size = config.send_batch_size }
+core_of config = core_to takes_all config
 
 -- a shard of the core by this configuration, whose senders are the lanes and the ticker
 abbrev pub HasSettings : Config → Held → Type 0
@@ -33,7 +38,7 @@ HasSettings config shard = settings shard ≡ settings_for (core_of config) (con
 abbrev pub nodes_of : Config → List LimiterNode
 nodes_of config = limiters (meaning config.policies)
 
--- what each answer tells of the run, by the sink's bytes and failures before and after: such a run left this report, or
+-- what each answer tells of the run, by the destination's bytes and failures before and after: such a run left this report, or
 -- one of which no report can tell
 abbrev pub AnswerTells : (IsSuch : LineSinkState → LineSinkState → List ℕ → Type 0) → (IsBeyond : LineSinkState → LineSinkState → Type 0) → (taken : Option (List ℕ)) → (failures : ℕ) → (taken_after : Option (List ℕ)) → (failures_after : ℕ) → Result Report ServeFault → Type 0
 AnswerTells IsSuch IsBeyond taken failures taken_after failures_after (Ok report) = IsSuch (up_state taken failures) (up_state taken_after failures_after) report
@@ -63,62 +68,72 @@ module _ {F T : Type 0} (serves : ℕ → F → LaneAt → F → LaneAt → Bool
   WorkedTells old new (Err CounterOverflow) = (counts : List (List ℕ)) × (is_full : Bool) × HasWorked old new counts is_full × TellsSink {A = Report} new.sink.is_down (Err CounterOverflow) × TellsCounts is_full counts (Err CounterOverflow)
   WorkedTells old new (Err (SinkDown report)) = (counts : List (List ℕ)) × (is_full : Bool) × HasWorked old new counts is_full × TellsSink {A = Report} new.sink.is_down (Err (SinkDown report)) × TellsCounts is_full counts (Err (SinkDown report))
 
-  -- the same by the sink's bytes and failures, before and after
-  pub record ServersTell (taken : Option (List ℕ)) (failures : ℕ) (taken_after : Option (List ℕ)) (failures_after : ℕ) (answer : Result Report ServeFault) : Type 0 where
+  -- the same by the bytes and failures of a destination of this manner, before and after
+  pub record ServersTell (manner : Manner) (taken : Option (List ℕ)) (failures : ℕ) (taken_after : Option (List ℕ)) (failures_after : ℕ) (answer : Result Report ServeFault) : Type 0 where
     pub old : ExporterState
     pub new : ExporterState
     pub size : old.size ≡ config.send_batch_size
+    pub manner_is : old.manner ≡ manner
     pub first : old.sink ≡ up_state taken failures
     pub taken_is : new.sink.taken ≡ taken_after
     pub failures_are : new.sink.failures ≡ failures_after
     pub tells : WorkedTells old new answer
 
-module _ {F T : Type 0} (receives : ℕ → F → LaneAt → List Arrival → F → LaneAt → List Arrival → Bool → Type 0) (ticks_give : T → Option ℕ → T → Type 0) (config : Config) (servers : List F) (ticks : T) where
-  -- what the threads did is a run of the core, for which the headline holds; the report and the sink tell of it
-  pub record IsRun (old new : LineSinkState) (report : List ℕ) : Type 0 where
-    pub ran : Ran receives ticks_give (core_of config) (nodes_of config) config.keeps_doubles config.queue_capacity config.lanes config.shards servers ticks old new
+module _ (manner : Manner) {F T : Type 0} (receives : ℕ → F → LaneAt → List Arrival → F → LaneAt → List Arrival → Bool → Type 0) (ticks_give : T → Option ℕ → T → Type 0) (config : Config) (servers : List F) (ticks : T) where
+  -- what the threads did is a run of the core, for which the headline holds; the report and the destination tell of it
+  pub record IsRunTo (old new : LineSinkState) (report : List ℕ) : Type 0 where
+    pub ran : Ran receives ticks_give (core_to manner config) (nodes_of config) config.keeps_doubles config.queue_capacity config.lanes config.shards servers ticks old new
     -- each lane's connections were served to their end
     pub none_stopped : (lane : ℕ) → lane < config.lanes → ran.stopped lane ≡ false
     -- no count passes 2^64-1
-    pub reports : Reports (core_of config) config.lanes config.shards ran.threads ran.end report
+    pub reports : Reports (core_to manner config) config.lanes config.shards ran.threads ran.end report
     pub fits : Fits report
-    pub holds : HoldsOfThreads (core_of config) config.lanes config.shards ran.threads ran.end
+    pub holds : HoldsOfThreads (core_to manner config) config.lanes config.shards ran.threads ran.end
 
   -- the same of a run some of whose counts passes 2^64-1, so that there is no report of it
-  pub record IsRunBeyond (old new : LineSinkState) : Type 0 where
-    pub ran : Ran receives ticks_give (core_of config) (nodes_of config) config.keeps_doubles config.queue_capacity config.lanes config.shards servers ticks old new
-    pub passes : CountPasses (core_of config) config.lanes config.shards ran.threads ran.end
-    pub holds : HoldsOfThreads (core_of config) config.lanes config.shards ran.threads ran.end
+  pub record IsRunBeyondTo (old new : LineSinkState) : Type 0 where
+    pub ran : Ran receives ticks_give (core_to manner config) (nodes_of config) config.keeps_doubles config.queue_capacity config.lanes config.shards servers ticks old new
+    pub passes : CountPasses (core_to manner config) config.lanes config.shards ran.threads ran.end
+    pub holds : HoldsOfThreads (core_to manner config) config.lanes config.shards ran.threads ran.end
 
   -- what each answer tells of the run
-  abbrev pub RunTells : (taken : Option (List ℕ)) → (failures : ℕ) → (taken_after : Option (List ℕ)) → (failures_after : ℕ) → Result Report ServeFault → Type 0
-  RunTells = AnswerTells IsRun IsRunBeyond
+  abbrev pub RunTellsTo : (taken : Option (List ℕ)) → (failures : ℕ) → (taken_after : Option (List ℕ)) → (failures_after : ℕ) → Result Report ServeFault → Type 0
+  RunTellsTo = AnswerTells IsRunTo IsRunBeyondTo
+
+-- what each answer tells of a run with lines as the destination
+abbrev pub RunTells : {F T : Type 0} → (receives : ℕ → F → LaneAt → List Arrival → F → LaneAt → List Arrival → Bool → Type 0) → (ticks_give : T → Option ℕ → T → Type 0) → Config → (servers : List F) → (ticks : T)
+    → (taken : Option (List ℕ)) → (failures : ℕ) → (taken_after : Option (List ℕ)) → (failures_after : ℕ) → Result Report ServeFault → Type 0
+RunTells receives ticks_give config servers ticks = RunTellsTo takes_all receives ticks_give config servers ticks
 
 -- ---- a run of connections and ticks of which nothing is said
 
-module _ (config : Config) where
-  -- there is a run of the core, for which the headline holds, of which the report and the sink tell; each shard was
+module _ (manner : Manner) (config : Config) where
+  -- there is a run of the core, for which the headline holds, of which the report and the destination tell; each shard was
   -- sent the same moments
-  pub record IsCoreRun (old new : LineSinkState) (report : List ℕ) : Type 0 where
+  pub record IsCoreRunTo (old new : LineSinkState) (report : List ℕ) : Type 0 where
     pub threads : Threads
     pub end : ExporterMade
-    pub ran : ThreadsRan (core_of config) (nodes_of config) config.queue_capacity config.lanes config.shards old new threads end
-    pub reports : Reports (core_of config) config.lanes config.shards threads end report
+    pub ran : ThreadsRan (core_to manner config) (nodes_of config) config.queue_capacity config.lanes config.shards old new threads end
+    pub reports : Reports (core_to manner config) config.lanes config.shards threads end report
     pub fits : Fits report
     pub moments : List ℕ
     pub same_ticks : (shard : ℕ) → threads.ticks shard ≡ moments
-    pub holds : HoldsOfThreads (core_of config) config.lanes config.shards threads end
+    pub holds : HoldsOfThreads (core_to manner config) config.lanes config.shards threads end
 
   -- the same of a run some of whose counts passes 2^64-1
-  pub record IsCoreRunBeyond (old new : LineSinkState) : Type 0 where
+  pub record IsCoreRunBeyondTo (old new : LineSinkState) : Type 0 where
     pub threads : Threads
     pub end : ExporterMade
-    pub ran : ThreadsRan (core_of config) (nodes_of config) config.queue_capacity config.lanes config.shards old new threads end
-    pub passes : CountPasses (core_of config) config.lanes config.shards threads end
+    pub ran : ThreadsRan (core_to manner config) (nodes_of config) config.queue_capacity config.lanes config.shards old new threads end
+    pub passes : CountPasses (core_to manner config) config.lanes config.shards threads end
     pub moments : List ℕ
     pub same_ticks : (shard : ℕ) → threads.ticks shard ≡ moments
-    pub holds : HoldsOfThreads (core_of config) config.lanes config.shards threads end
+    pub holds : HoldsOfThreads (core_to manner config) config.lanes config.shards threads end
 
   -- what each answer tells of it
-  abbrev pub CoreRunTells : (taken : Option (List ℕ)) → (failures : ℕ) → (taken_after : Option (List ℕ)) → (failures_after : ℕ) → Result Report ServeFault → Type 0
-  CoreRunTells = AnswerTells IsCoreRun IsCoreRunBeyond
+  abbrev pub CoreRunTellsTo : (taken : Option (List ℕ)) → (failures : ℕ) → (taken_after : Option (List ℕ)) → (failures_after : ℕ) → Result Report ServeFault → Type 0
+  CoreRunTellsTo = AnswerTells IsCoreRunTo IsCoreRunBeyondTo
+
+-- the same with lines as the destination
+abbrev pub CoreRunTells : Config → (taken : Option (List ℕ)) → (failures : ℕ) → (taken_after : Option (List ℕ)) → (failures_after : ℕ) → Result Report ServeFault → Type 0
+CoreRunTells config = CoreRunTellsTo takes_all config

@@ -10,13 +10,13 @@ use job_threads::Job;
 use lane_queue::{Gate, Receiver, Room};
 use otlp_types::Shipment;
 use span_exporter::Exporter;
-use span_sink::Sink;
+use span_sink::Destination;
 use std::sync::Wait;
 use std::time::Clock;
 
 /// What the exporter is given.
 #[derive(Drop)]
-pub struct ExporterJob<'s, Output: Sink, ExportRoom: Room, Observer, Runtime: Wait> {
+pub struct ExporterJob<'s, Output: Destination, ExportRoom: Room, Observer, Runtime: Wait> {
     pub rt: &'s Runtime,
     pub exporter: Exporter<Output>,
     pub receiver: Receiver<Shipment, ExportRoom>,
@@ -25,9 +25,9 @@ pub struct ExporterJob<'s, Output: Sink, ExportRoom: Room, Observer, Runtime: Wa
 
 /// What the exporter leaves.
 #[derive(Drop)]
-pub struct ExporterLeft<S: Sink, D: Room> {
+pub struct ExporterLeft<Output: Destination, D: Room> {
     /// The exporter, whose batch is empty.
-    pub exporter: Exporter<S>,
+    pub exporter: Exporter<Output>,
     /// The end at which shipments were popped.
     pub receiver: Receiver<Shipment, D>,
     /// What it counted.
@@ -36,7 +36,7 @@ pub struct ExporterLeft<S: Sink, D: Room> {
     pub is_full: bool,
 }
 
-impl<'s, Output: Sink + Drop, ExportRoom: Room, Observer: Gate, Runtime: Wait + Clock> Job
+impl<'s, Output: Destination + Drop, ExportRoom: Room, Observer: Gate, Runtime: Wait + Clock> Job
     for ExporterJob<'s, Output, ExportRoom, Observer, Runtime> {
     ghost use Rattle.std.specs.Prelude.{◌≡◌, ◌<◌, [], All, false};
     ghost use Rattle.std.specs.List.{list_any};

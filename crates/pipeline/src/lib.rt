@@ -28,4 +28,4 @@ mod ticker_job;
 pub use fault::ServeFault;
 pub use lent::RunContext;
 pub use machine::Machine;
-pub use running::{run, run_by_turns};
+pub use running::{run, run_by_turns, run_by_turns_to};

@@ -5,7 +5,7 @@ ghost use Rattle.lane_worker.specs.Serving.{connection};
 ghost use Rattle.run_weave.specs.Received.{receives_one_by_one, receives_by_turns};
 ghost use Rattle.pipeline.specs.Made.{CanRun};
 ghost use Rattle.pipeline.specs.Outcome.{SinkAnswers, SinkWent, TellsCounts, TellsSink, has_begun};
-ghost use Rattle.pipeline.specs.Promise.{HasWorked, WorkedTells, ServersTell, RunTells};
+ghost use Rattle.pipeline.specs.Promise.{HasWorked, WorkedTells, ServersTell, RunTells, RunTellsTo};
 ghost use Rattle.config_shards.specs.Shards.{CanBegin};
 ghost use Rattle.tsc_config.specs.declared.config.Config.{Config};
 
@@ -25,7 +25,7 @@ use lane_turns::Driver;
 use lane_worker::{Acceptor, ByTurns, LaneServer, OneByOne, Ticks};
 use shared_budget::asked_seats_may_be_compared;
 use span_exporter::{Exporter, sink_takes_lines};
-use span_sink::{LineSink, Sink, takes_handed_lines};
+use span_sink::{Destination, LineSink, Sink, takes_handed_lines};
 use std::marker::Brand;
 use std::time::Clock;
 use trace_hash::TraceHashing;
@@ -69,7 +69,9 @@ where
     ensures begun { is_none result.2 ≡ has_begun result.1 }
     ensures back { IfSome result.2 (λ back. (back.0.items ≡ servers.items) × (back.1 ≡ ticks)) }
 {
-    run_servers(context, config, servers, ticks, sink)
+    let lines = LineSink::new(sink);
+    let (lines, answer, back) = run_servers(context, config, servers, ticks, lines);
+    (lines.end(), answer, back)
 }
 
 /// The same where each lane serves many connections at once, turn by turn, as its driver says. There is one driver for
@@ -102,7 +104,41 @@ pub fn run_by_turns<
     ensures begun { is_none result.2 ≡ has_begun result.1 }
     ensures back { IfSome result.2 (λ back. (back.0.items ≡ drivers.items) × (back.1 ≡ ticks)) }
 {
-    run_servers(context, config, drivers, ticks, sink)
+    let lines = LineSink::new(sink);
+    let (lines, answer, back) = run_servers(context, config, drivers, ticks, lines);
+    (lines.end(), answer, back)
+}
+
+/// The same where batches go to any destination, which is up.
+pub fn run_by_turns_to<
+    's,
+    Poller: Driver + Send + Drop,
+    TickSource: Ticks + Send + Drop,
+    Output: Destination + Drop,
+    Observer: Gate + Sync,
+    Mark: HasStopMark + Sync,
+    Time: MomentClock + Sync,
+    Runtime: Machine,
+>(
+    context: &RunContext<'s, Observer, Mark, Time, Runtime>,
+    config: Config,
+    drivers: Vec<ByTurns<Poller>>,
+    ticks: TickSource,
+    destination: Output,
+) -> (
+    Output,
+    Result<Report, ServeFault>,
+    Option<(Vec<ByTurns<Poller>>, TickSource)>,
+)
+    requires ranges { CanBegin config }
+    requires drivers { vec_len drivers ≡ config.lanes }
+    requires up { (Output.state destination).is_down ≡ false }
+    ensures sink { SinkAnswers (Output.state destination).taken (Output.state destination).failures (Output.state result.0).taken (Output.state result.0).failures result.1 }
+    ensures ran { RunTellsTo Output.manner (receives_by_turns (λ (s : ByTurns Poller). s.allowed) (λ (s : ByTurns Poller). s.driver) Poller.asks Poller.hears) TickSource.gives config drivers.items ticks (Output.state destination).taken (Output.state destination).failures (Output.state result.0).taken (Output.state result.0).failures result.1 }
+    ensures begun { is_none result.2 ≡ has_begun result.1 }
+    ensures back { IfSome result.2 (λ back. (back.0.items ≡ drivers.items) × (back.1 ≡ ticks)) }
+{
+    run_servers(context, config, drivers, ticks, destination)
 }
 
 /// The same, whatever serves the lanes' connections.
@@ -110,7 +146,7 @@ fn run_servers<
     's,
     Server: LaneServer + Send + Drop,
     TickSource: Ticks + Send + Drop,
-    Output: Sink + Drop,
+    Output: Destination + Drop,
     Observer: Gate + Sync,
     Mark: HasStopMark + Sync,
     Time: MomentClock + Sync,
@@ -120,7 +156,7 @@ fn run_servers<
     config: Config,
     servers: Vec<Server>,
     ticks: TickSource,
-    sink: Output,
+    destination: Output,
 ) -> (
     Output,
     Result<Report, ServeFault>,
@@ -128,23 +164,22 @@ fn run_servers<
 )
     requires ranges { CanBegin config }
     requires servers { vec_len servers ≡ config.lanes }
-    requires failures { Output.failures sink < 2 ^ 64 - 1 }
-    ensures sink { SinkAnswers (Output.taken sink) (Output.failures sink) (Output.taken result.0) (Output.failures result.0) result.1 }
-    ensures ran { ServersTell Server.serves TickSource.gives config servers.items ticks (Output.taken sink) (Output.failures sink) (Output.taken result.0) (Output.failures result.0) result.1 }
+    requires up { (Output.state destination).is_down ≡ false }
+    ensures sink { SinkAnswers (Output.state destination).taken (Output.state destination).failures (Output.state result.0).taken (Output.state result.0).failures result.1 }
+    ensures ran { ServersTell Server.serves TickSource.gives config servers.items ticks Output.manner (Output.state destination).taken (Output.state destination).failures (Output.state result.0).taken (Output.state result.0).failures result.1 }
     ensures begun { is_none result.2 ≡ has_begun result.1 }
     ensures back { IfSome result.2 (λ back. (back.0.items ≡ servers.items) × (back.1 ≡ ticks)) }
 {
-    let lines = LineSink::new(sink);
     let exporter = match Exporter::new(
         context.alloc,
         config.send_batch_size,
         config.shards,
-        lines,
+        destination,
     ) {
         Ok(exporter) => exporter,
-        Err((lines, _)) => {
+        Err((destination, _)) => {
             return (
-                lines.end(),
+                destination,
                 Err(ServeFault::NoMemory),
                 Some((servers, ticks)),
             );
@@ -170,7 +205,7 @@ fn run_in<
     's,
     Server: LaneServer + Send + Drop,
     TickSource: Ticks + Send + Drop,
-    Output: Sink + Drop,
+    Output: Destination + Drop,
     Observer: Gate + Sync,
     Mark: HasStopMark + Sync,
     Time: MomentClock + Sync,
@@ -253,7 +288,7 @@ fn run_over<
     's,
     Server: LaneServer + Send + Drop,
     TickSource: Ticks + Send + Drop,
-    Output: Sink + Drop,
+    Output: Destination + Drop,
     Observer: Gate + Sync,
     Mark: HasStopMark + Sync,
     Time: MomentClock + Sync,

@@ -14,7 +14,7 @@
 //!     close_wait: 5_000,
 //! };
 //! let backend = SocketBackend::new(&rt, alloc, settings, &watch);
-//! let batches = BatchSink::new(&rt, rule, backend, spans);
+//! let posts = Posts::new(&rt, rule, backend);
 //! ```
 #![tactic(auto)]
 

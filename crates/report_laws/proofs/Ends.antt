@@ -2,7 +2,8 @@
 -- For the law `answered_reports_add_up`.
 use Rattle.std.proofs.Common.{ℕ, List, Some, Ok, Err}
 use Rattle.pipeline.specs.declared.fault.ServeFault.TheVariants as serve_fault
-use Rattle.pipeline.specs.Promise.{core_of, IsCoreRun}
+use Rattle.pipeline.specs.Promise.{core_to, IsCoreRunTo}
+use Rattle.span_sink.specs.Manners.{Manner}
 use Rattle.script_session.specs.declared.fault.ReplayFault.TheVariants as replay_fault
 use Rattle.script_session.specs.Replay.{ReplayRun, ClosesWith}
 use Rattle.span_sink.specs.LineSinks.{LineSinkState}
@@ -12,14 +13,14 @@ use Rattle.report_laws.specs.Reports.{ReportAddsUp}
 use Rattle.report_laws.specs.Answers.{ServeAnswersAddUp, ReplayAnswersAddUp}
 use Rattle.report_laws.proofs.Told.{serve_adds_up, replay_adds_up}
 
-core_run : (config : Config) (old new : LineSinkState) (report : List ℕ) → IsCoreRun config old new report → ReportAddsUp report
-core_run config old new report h = serve_adds_up (core_of config) config.lanes config.shards h.threads h.end report h.holds h.reports
+core_run : (manner : Manner) (config : Config) (old new : LineSinkState) (report : List ℕ) → IsCoreRunTo manner config old new report → ReportAddsUp report
+core_run manner config old new report h = serve_adds_up (core_to manner config) config.lanes config.shards h.threads h.end report h.holds h.reports
 
 pub serve_answers : ServeAnswersAddUp
-serve_answers config taken failures taken_after failures_after (Ok report) h = core_run config _ _ report h
-serve_answers config taken failures taken_after failures_after (Err (serve_fault.SinkDown report)) h = core_run config _ _ report h
-serve_answers config taken failures taken_after failures_after (Err serve_fault.NoMemory) h = tt
-serve_answers config taken failures taken_after failures_after (Err serve_fault.CounterOverflow) h = tt
+serve_answers manner config taken failures taken_after failures_after (Ok report) h = core_run manner config _ _ report h
+serve_answers manner config taken failures taken_after failures_after (Err (serve_fault.SinkDown report)) h = core_run manner config _ _ report h
+serve_answers manner config taken failures taken_after failures_after (Err serve_fault.NoMemory) h = tt
+serve_answers manner config taken failures taken_after failures_after (Err serve_fault.CounterOverflow) h = tt
 
 closed_run : (run : ReplayRun) (last : LineSinkState) (report : List ℕ) (played : List Instruction) → ClosesWith run last (Some report) played → ReportAddsUp report
 closed_run run last report played h = replay_adds_up run.settings run.sizes run.lanes run.shards h.0.after report h.0.is_run h.1 h.0.reports

@@ -4,7 +4,8 @@ use Rattle.drop_ledger.specs.declared.report.Report.{Report}
 use Rattle.tsc_config.specs.declared.config.Config.{Config}
 use Rattle.pipeline.specs.declared.fault.ServeFault.{ServeFault}
 use Rattle.pipeline.specs.declared.fault.ServeFault.TheVariants as serve_fault
-use Rattle.pipeline.specs.Promise.{CoreRunTells}
+use Rattle.pipeline.specs.Promise.{CoreRunTellsTo}
+use Rattle.span_sink.specs.Manners.{Manner}
 use Rattle.script_session.specs.declared.fault.ReplayFault.{ReplayFault}
 use Rattle.script_session.specs.declared.fault.ReplayFault.TheVariants as replay_fault
 use Rattle.script_session.specs.Replay.{ReplayRun, RunEnds}
@@ -26,10 +27,10 @@ ReplayAnswerAddsUp (Err (replay_fault.Refused line)) = Unit {0}
 ReplayAnswerAddsUp (Err (replay_fault.Fault line)) = Unit {0}
 ReplayAnswerAddsUp (Err replay_fault.CounterOverflow) = Unit {0}
 
--- each answer of which a run of the core tells so, as `collector_serve`'s `serve_on` promises
+-- each answer of which a run of the core tells so, whatever the destination, as `collector_serve`'s `serve_on` promises
 abbrev pub ServeAnswersAddUp : Type 0
-ServeAnswersAddUp = (config : Config) (taken : Option (List ℕ)) (failures : ℕ) (taken_after : Option (List ℕ)) (failures_after : ℕ) (answer : Result Report ServeFault)
-    → CoreRunTells config taken failures taken_after failures_after answer → ServeAnswerAddsUp answer
+ServeAnswersAddUp = (manner : Manner) (config : Config) (taken : Option (List ℕ)) (failures : ℕ) (taken_after : Option (List ℕ)) (failures_after : ℕ) (answer : Result Report ServeFault)
+    → CoreRunTellsTo manner config taken failures taken_after failures_after answer → ServeAnswerAddsUp answer
 
 -- each answer at which a replay ends so, as `script_session`'s `replay_run` promises
 abbrev pub ReplayAnswersAddUp : Type 0

@@ -6,6 +6,7 @@ pub mod OneByOne
 pub mod ManyTurns
 pub mod LaneFacts
 pub mod ShardFacts
+pub mod TakenLines
 pub mod ExporterFacts
 pub mod RanLists
 pub mod Rans

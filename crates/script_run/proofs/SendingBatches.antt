@@ -13,6 +13,7 @@ use Rattle.span_exporter.specs.Exports.{Sends, DropsBatch}
 use Rattle.span_exporter.specs.declared.answer.Flushed.{Flushed}
 use Rattle.span_exporter.specs.declared.answer.Flushed.TheVariants.{Handed as WasHanded, BatchDropped, Empty}
 use Rattle.drop_ledger.specs.declared.count.Count.TheVariants.{Handed, Dropped}
+use Rattle.span_sink.specs.Manners.{refuses}
 use Rattle.world_theory.specs.World.{CoreConfig, World as Core}
 use Rattle.world_theory.specs.Step.{pull, hand, fail, drop_batch, is_empty, pull_from, drop_batch_applies}
 use Rattle.script_run.specs.Sending.{SentBatch, spans_of, AreBatches, SendsAll}
@@ -89,6 +90,10 @@ handed_counted (one ∷ more) old new h = omega (
 
 -- ---- the steps
 
+or_true : (b : Bool) → b || true ≡ true
+or_true true = refl
+or_true false = refl
+
 module _ (c : CoreConfig) (k : Core) where
   -- the core where the exporter's parts are these
   abbrev pub sending : (exported batch : List Arrival) → (handed : List (List Arrival)) → (counted : List DroppedSpan) → (down : Bool) → Core
@@ -114,9 +119,9 @@ module _ (c : CoreConfig) (k : Core) where
     leads : Leads c (sending X batch H C old.is_down) (sending X [] (H ++ handed_with flushed batch []) counted new.is_down)
 
   -- a batch is given up, where the reason applies
-  gives_up : (batch X : List Arrival) (H : List (List Arrival)) (C : List DroppedSpan) (down : Bool) (why : Reason) → 0 < length batch → drop_batch_applies (sending X batch H C down) why ≡ true
+  gives_up : (batch X : List Arrival) (H : List (List Arrival)) (C : List DroppedSpan) (down : Bool) (why : Reason) → 0 < length batch → drop_batch_applies c (sending X batch H C down) why ≡ true
       → Leads c (sending X batch H C down) (sending X [] (H ++ []) (C ++ counts why batch) down)
-  gives_up batch X H C down why l applies = leads_then c _ _ _ (leads_one c _ _ (drop_batch why) (unless_either (is_empty batch) (not (drop_batch_applies (sending X batch H C down) why)) (sending X [] H (C ++ counts why batch) down) (not_empty batch l) (ap not applies)))
+  gives_up batch X H C down why l applies = leads_then c _ _ _ (leads_one c _ _ (drop_batch why) (unless_either (is_empty batch) (not (drop_batch_applies c (sending X batch H C down) why)) (sending X [] H (C ++ counts why batch) down) (not_empty batch l) (ap not applies)))
       (leads_same c _ _ (ap (λ (z : List (List Arrival)). sending X [] z (C ++ counts why batch) down) (sym (append-nil H))))
 
   -- a batch that is given up is counted under the reason
@@ -135,9 +140,9 @@ module _ (c : CoreConfig) (k : Core) where
       (leads_then c _ _ _ (gives_up batch X H C old.is_down NoMemory l refl) (leads_same c _ _ (ap (λ (z : LineSinkState). sending X [] (H ++ []) (C ++ counts NoMemory batch) z.is_down) (sym h.1))))
   drops_batch_one batch n ExporterDown old new X H C l e (inl f) = given_up batch n ExporterDown old new X H C e
       (leads_then c _ (sending X batch H C true) _ (leads_one c _ _ fail (ap (λ b. cond b None (Some (sending X batch H C true))) f.2.was_up))
-      (leads_then c _ _ _ (gives_up batch X H C true ExporterDown l refl) (leads_same c _ _ (ap (λ b. sending X [] (H ++ []) (C ++ counts ExporterDown batch) b) (sym f.2.goes_down)))))
+      (leads_then c _ _ _ (gives_up batch X H C true ExporterDown l (or_true (refuses c.manner))) (leads_same c _ _ (ap (λ b. sending X [] (H ++ []) (C ++ counts ExporterDown batch) b) (sym f.2.goes_down)))))
   drops_batch_one batch n ExporterDown old new X H C l e (inr f) = given_up batch n ExporterDown old new X H C e
-      (leads_then c _ _ _ (gives_up batch X H C old.is_down ExporterDown l f.0) (leads_same c _ _ (ap (λ (z : LineSinkState). sending X [] (H ++ []) (C ++ counts ExporterDown batch) z.is_down) (sym f.1))))
+      (leads_then c _ _ _ (gives_up batch X H C old.is_down ExporterDown l (ap (λ b. refuses c.manner || b) f.0 ∙ or_true (refuses c.manner))) (leads_same c _ _ (ap (λ (z : LineSinkState). sending X [] (H ++ []) (C ++ counts ExporterDown batch) z.is_down) (sym f.1))))
   drops_batch_one batch n InvalidId old new X H C l e h = absurd h
   drops_batch_one batch n QueueFull old new X H C l e h = absurd h
   drops_batch_one batch n Evicted old new X H C l e h = absurd h

@@ -4,6 +4,7 @@ use Rattle.std.specs.List.{list_all}
 use Rattle.otlp_types.specs.declared.arrival.Arrival.{Arrival}
 use Rattle.journal_theory.specs.Journal.{Settings}
 use Rattle.journal_theory.specs.Fate.{under}
+use Rattle.span_sink.specs.Manners.{takes_all}
 use Rattle.world_theory.specs.World.{CoreConfig, CoreLane, CoreShard, World as Core, settings, has_due}
 use Rattle.world_theory.specs.Step.{Step, is_empty, run}
 use Rattle.world_theory.specs.Places.{IsClosed}
@@ -16,7 +17,7 @@ use Rattle.script_run.specs.Writing.{handed_in}
 
 -- the core's configuration, by the settings of each shard and the size of a batch
 abbrev pub core_config : Settings → Sizes → CoreConfig
-core_config s sizes = record { shard = s; batch_size = sizes.batch }
+core_config s sizes = record { shard = s; batch_size = sizes.batch; manner = takes_all }
 
 -- how many spans of the core have this end
 abbrev pub count_in : Core → Count → ℕ

@@ -8,14 +8,14 @@ ghost use Rattle.script_session.specs.Pulling.{PullsAll, GoesOn};
 use drop_ledger::{Count, Report};
 use otlp_types::{Arrival, Shipment};
 use span_exporter::{Exporter, Flushed, Pulled};
-use span_sink::Sink;
+use span_sink::{LineSink, Sink};
 use std::marker::Model;
 
 /// The exporter, whose open batch has room, and the counts, or `None` once a count would have passed 2^64-1. Contracts
 /// see both.
 #[derive(Drop)]
 pub struct Output<S: Sink> {
-    exporter: Exporter<S>,
+    exporter: Exporter<LineSink<S>>,
     report: Option<Report>,
 }
 
@@ -36,7 +36,7 @@ impl<S: Sink> Model for Output<S> {
 
 impl<S: Sink> Output<S> {
     /// Nothing is counted yet.
-    pub fn new(exporter: Exporter<S>) -> Self
+    pub fn new(exporter: Exporter<LineSink<S>>) -> Self
         requires { length exporter.batch < exporter.size }
         ensures { result ≡ (exporter, Some (replicate 9 0)) }
     {
@@ -52,7 +52,9 @@ impl<S: Sink> Output<S> {
         ensures failures { S.failures result.0 ≡ self.0.sink.failures }
         ensures report { result.1 ≡ self.1 }
     {
-        (self.exporter.end(), self.report)
+        let Output { exporter, report } = self;
+        let lines = exporter.end();
+        (lines.end(), report)
     }
 
     /// Whether a write failed.
@@ -124,7 +126,7 @@ fn count(report: &mut Option<Report>, what: Count, spans: u64)
 }
 
 /// Sends the batch, and counts what became of its spans.
-fn send<S: Sink>(exporter: &mut Exporter<S>, report: &mut Option<Report>)
+fn send<S: Sink>(exporter: &mut Exporter<LineSink<S>>, report: &mut Option<Report>)
     ensures emptied { exporter.new.batch ≡ [] }
     ensures size { exporter.new.size ≡ exporter.old.size }
     ensures ends { exporter.new.ends ≡ exporter.old.ends }

@@ -5,28 +5,35 @@ use Rattle.std.specs.List.{concat, list_all}
 use Rattle.std.specs.Io.KnownBytes.{Appends}
 use Rattle.std.proofs.KnownBytes.{Appends-nil, Appends-trans}
 use Rattle.span_sink.specs.declared.sink.SinkFault.{SinkFault}
-use Rattle.span_sink.specs.declared.sink.SinkFault.TheVariants.{Failed, Down}
-use Rattle.span_sink.specs.LineSinks.{LineSinkState}
-use Rattle.span_sink.specs.Hands.{Handing, HandsOne, HandsAll, handed_lines, is_down_answer, StopsWithin, TookLines, TakesHandedLines}
+use Rattle.span_sink.specs.declared.sink.SinkFault.TheVariants.{Failed, Down, Refused}
+use Rattle.span_sink.specs.LineSinks.{LineSinkState, Refuses}
+use Rattle.span_sink.specs.Manners.{Manner, takes_all, may_refuse, prints_refused}
+use Rattle.span_sink.specs.Hands.{Handing, HandsTo, HandsAll, handed_lines, is_down_answer, StopsWithin, TookLines, TakesHandedLines}
 
 -- once a write has failed, nothing is taken and every call is answered Down
-pub record StaysDown (old : LineSinkState) (calls : List Handing) (new : LineSinkState) : Type 0 where
+pub record StaysDown (manner : Manner) (old : LineSinkState) (calls : List Handing) (new : LineSinkState) : Type 0 where
   pub same : new ≡ old
-  pub nothing : handed_lines calls ≡ []
+  pub nothing : handed_lines manner calls ≡ []
   pub answers : list_all (λ call. is_down_answer call.answer) calls ≡ true
 
-one_stays_down : (old between new : LineSinkState) (line : List ℕ) (answer : Result (Unit {0}) SinkFault) (calls : List Handing) → old.is_down ≡ true
-    → HandsOne old line answer between → (between ≡ old → StaysDown old calls new) → StaysDown old (record { line = line; answer = answer } ∷ calls) new
-one_stays_down old between new line (Ok done) calls down one rest = let up : old.is_down ≡ false = one.was_up in cc
-one_stays_down old between new line (Err Failed) calls down one rest = let up : old.is_down ≡ false = one.was_up in cc
-one_stays_down old between new line (Err Down) calls down one rest =
+one_stays_down : (manner : Manner) (old between new : LineSinkState) (line : List ℕ) (answer : Result (Unit {0}) SinkFault) (calls : List Handing) → old.is_down ≡ true
+    → HandsTo manner old line answer between → (between ≡ old → StaysDown manner old calls new) → StaysDown manner old (record { line = line; answer = answer } ∷ calls) new
+one_stays_down manner old between new line (Ok done) calls down one rest = let up : old.is_down ≡ false = one.was_up in cc
+one_stays_down manner old between new line (Err Failed) calls down one rest = let up : old.is_down ≡ false = one.was_up in cc
+one_stays_down manner old between new line (Err Down) calls down one rest =
     let all = rest one.1 in record { same = all.same; nothing = all.nothing; answers = all.answers }
+one_stays_down manner old between new line (Err Refused) calls down one rest = absurd (up manner one)
+  where
+    up : (m : Manner) → Refuses m old line between → ⊥
+    up takes_all one = one
+    up may_refuse one = let up : old.is_down ≡ false = one.was_up in cc
+    up prints_refused one = let up : old.is_down ≡ false = one.was_up in cc
 
-stays_down : (old new : LineSinkState) (calls : List Handing) → old.is_down ≡ true → HandsAll old calls new → StaysDown old calls new
-stays_down old new [] down all = record { same = all; nothing = refl; answers = refl }
-stays_down old new (call ∷ calls) down all =
-    one_stays_down old all.0 new call.line call.answer calls down all.1
-    (λ (same : all.0 ≡ old). subst (λ s. StaysDown s calls new) same (stays_down all.0 new calls (ap (λ s. s.is_down) same ∙ down) all.2))
+stays_down : (manner : Manner) (old new : LineSinkState) (calls : List Handing) → old.is_down ≡ true → HandsAll manner old calls new → StaysDown manner old calls new
+stays_down manner old new [] down all = record { same = all; nothing = refl; answers = refl }
+stays_down manner old new (call ∷ calls) down all =
+    one_stays_down manner old all.0 new call.line call.answer calls down all.1
+    (λ (same : all.0 ≡ old). subst (λ s. StaysDown manner s calls new) same (stays_down manner all.0 new calls (ap (λ s. s.is_down) same ∙ down) all.2))
 
 abbrev Ends : (old : LineSinkState) → (part : List ℕ) → List Handing → (new : LineSinkState) → Type 0
 Ends old part calls new =
@@ -54,16 +61,16 @@ one_before old between new part call calls down failures (inr ends) = let stop =
       },
     )
 
-one_took : (old between new : LineSinkState) (line : List ℕ) (answer : Result (Unit {0}) SinkFault) (calls : List Handing) → HandsOne old line answer between
-    → HandsAll between calls new → TookLines between calls new → TookLines old (record { line = line; answer = answer } ∷ calls) new
-one_took old between new line (Ok done) calls one all rest = record {
+one_took : (manner : Manner) (old between new : LineSinkState) (line : List ℕ) (answer : Result (Unit {0}) SinkFault) (calls : List Handing) → HandsTo manner old line answer between
+    → HandsAll manner between calls new → TookLines manner between calls new → TookLines manner old (record { line = line; answer = answer } ∷ calls) new
+one_took manner old between new line (Ok done) calls one all rest = record {
   part = rest.part;
-  bytes = rw append_assoc (Appends-trans old.taken between.taken new.taken line (concat (handed_lines calls) ++ rest.part) one.bytes rest.bytes);
+  bytes = rw append_assoc (Appends-trans old.taken between.taken new.taken line (concat (handed_lines manner calls) ++ rest.part) one.bytes rest.bytes);
   ends = one_before old between new rest.part (record { line = line; answer = Ok done }) calls (one.stays_up ∙ sym one.was_up) one.no_failure rest.ends;
 }
-one_took old between new line (Err Failed) calls one all rest = let down = stays_down between new calls one.goes_down all in record {
+one_took manner old between new line (Err Failed) calls one all rest = let down = stays_down manner between new calls one.goes_down all in record {
   part = one.part;
-  bytes = subst (λ s. Appends old.taken s.taken (concat (handed_lines calls) ++ one.part)) (sym down.same)
+  bytes = subst (λ s. Appends old.taken s.taken (concat (handed_lines manner calls) ++ one.part)) (sym down.same)
       (subst (λ lines. Appends old.taken between.taken (concat lines ++ one.part)) (sym down.nothing) one.bytes);
   ends = inr (
     one.was_up,
@@ -81,14 +88,28 @@ one_took old between new line (Err Failed) calls one all rest = let down = stays
     },
   );
 }
-one_took old between new line (Err Down) calls one all rest = record {
+one_took manner old between new line (Err Down) calls one all rest = record {
   part = rest.part;
-  bytes = subst (λ s. Appends s.taken new.taken (concat (handed_lines calls) ++ rest.part)) one.1 rest.bytes;
+  bytes = subst (λ s. Appends s.taken new.taken (concat (handed_lines manner calls) ++ rest.part)) one.1 rest.bytes;
   ends = one_before old between new rest.part (record { line = line; answer = Err Down }) calls (ap (λ s. s.is_down) one.1) (ap (λ s. s.failures) one.1) rest.ends;
 }
+one_took manner old between new line (Err Refused) calls one all rest = refused manner one rest
+  where
+    refused : (m : Manner) → Refuses m old line between → TookLines m between calls new → TookLines m old (record { line = line; answer = Err Refused } ∷ calls) new
+    refused takes_all one rest = absurd one
+    refused may_refuse one rest = record {
+      part = rest.part;
+      bytes = Appends-trans old.taken between.taken new.taken [] (concat (handed_lines may_refuse calls) ++ rest.part) one.bytes rest.bytes;
+      ends = one_before old between new rest.part (record { line = line; answer = Err Refused }) calls (one.stays_up ∙ sym one.was_up) one.no_failure rest.ends;
+    }
+    refused prints_refused one rest = record {
+      part = rest.part;
+      bytes = rw append_assoc (Appends-trans old.taken between.taken new.taken line (concat (handed_lines prints_refused calls) ++ rest.part) one.bytes rest.bytes);
+      ends = one_before old between new rest.part (record { line = line; answer = Err Refused }) calls (one.stays_up ∙ sym one.was_up) one.no_failure rest.ends;
+    }
 
 pub takes_handed_lines : TakesHandedLines
-takes_handed_lines old new [] all =
+takes_handed_lines manner old new [] all =
     record { part = []; bytes = subst (λ s. Appends old.taken s.taken []) (sym all) (Appends-nil old.taken); ends = inl (refl, ap (λ s. s.is_down) all, ap (λ s. s.failures) all) }
-takes_handed_lines old new (call ∷ calls) all =
-    one_took old all.0 new call.line call.answer calls all.1 all.2 (takes_handed_lines all.0 new calls all.2)
+takes_handed_lines manner old new (call ∷ calls) all =
+    one_took manner old all.0 new call.line call.answer calls all.1 all.2 (takes_handed_lines manner all.0 new calls all.2)

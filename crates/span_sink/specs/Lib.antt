@@ -1,3 +1,4 @@
+pub mod Manners
 pub mod Hands
 pub mod LineSinks
 pub mod Sinks

@@ -1,6 +1,7 @@
 -- What a sink of lines does to the bytes that its sink took and to the sink's count of failures.
-use Rattle.std.specs.Prelude.{◌≡◌, ℕ, ◌+◌, ◌<◌, Bool, true, false, Option, List, ◌++◌, length}
+use Rattle.std.specs.Prelude.{◌≡◌, ℕ, ◌+◌, ◌<◌, Bool, true, false, Option, List, [], ◌++◌, length}
 use Rattle.std.specs.Io.KnownBytes.{Appends}
+use Rattle.span_sink.specs.Manners.{Manner, takes_all, may_refuse, prints_refused}
 
 -- the bytes that the sink took, where they are known, its count of failures, and whether a write has failed
 pub record LineSinkState : Type 0 where
@@ -33,3 +34,16 @@ pub record FailsInside (old : LineSinkState) (text : List ℕ) (new : LineSinkSt
   pub split : text ≡ part ++ missing
   pub cut_short : 0 < length missing
   pub bytes : Appends old.taken new.taken part
+
+-- the line was refused, of which so much was taken; no write failed, and the next line may be taken
+pub record StaysUp (old : LineSinkState) (taken : List ℕ) (new : LineSinkState) : Type 0 where
+  pub was_up : old.is_down ≡ false
+  pub stays_up : new.is_down ≡ false
+  pub no_failure : new.failures ≡ old.failures
+  pub bytes : Appends old.taken new.taken taken
+
+-- what a destination of this manner does with a line that it refuses
+abbrev pub Refuses : Manner → (old : LineSinkState) → (line : List ℕ) → (new : LineSinkState) → Type 0
+Refuses takes_all old line new = ⊥
+Refuses may_refuse old line new = StaysUp old [] new
+Refuses prints_refused old line new = StaysUp old line new

@@ -15,11 +15,13 @@
 //! ```
 #![tactic(auto)]
 
+mod destination;
 mod law;
 mod line_sink;
 mod sink;
 mod write_sink;
 
+pub use destination::Destination;
 pub use law::takes_handed_lines;
 pub use line_sink::{LineSink, write_whole};
 pub use sink::{Sink, SinkFault};

@@ -5,6 +5,7 @@ ghost use Rattle.std.specs.Io.KnownBytes.{Appends, Keeps};
 ghost use Rattle.span_sink.specs.LineSinks.{LineSinkState, up_state, down_state, TakesWhole, FailsInside};
 ghost use Rattle.span_sink.specs.Hands.{HandsOne};
 
+use crate::destination::Destination;
 use crate::sink::{Sink, SinkFault};
 use std::marker::Model;
 
@@ -64,6 +65,22 @@ impl<S: Sink> LineSink<S> {
             return Err(SinkFault::Failed);
         }
         Ok(())
+    }
+}
+
+impl<S: Sink> Destination for LineSink<S> {
+    ghost use Rattle.span_sink.specs.Manners.{takes_all};
+
+    ghost manner = { takes_all };
+
+    ghost state = { λ s. s };
+
+    fn hand(&mut self, line: &[u8]) -> Result<(), SinkFault> {
+        LineSink::hand(self, line)
+    }
+
+    fn is_down(&self) -> bool {
+        LineSink::is_down(self)
     }
 }
 

@@ -12,6 +12,8 @@ pub enum SinkFault {
     Failed,
     /// A write failed in an earlier call, and nothing was written in this one.
     Down,
+    /// The line was refused, and the next one may be taken.
+    Refused,
 }
 
 impl fmt::Display for SinkFault {
@@ -24,6 +26,7 @@ impl fmt::Display for SinkFault {
         match self {
             SinkFault::Failed => f.write_str("a write failed"),
             SinkFault::Down => f.write_str("a write failed earlier"),
+            SinkFault::Refused => f.write_str("the line was refused"),
         }
     }
 }

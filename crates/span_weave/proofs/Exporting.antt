@@ -19,14 +19,14 @@ use Rattle.span_weave.proofs.Runs.{Leads, leads_same, leads_one, leads_then}
 use Rattle.span_weave.proofs.Worlds.{world}
 
 -- a batch may be given up in the world as by the exporter itself
-drop_batch_is : (w : World) (reason : Reason) → drop_batch_applies w reason ≡ may_drop_batch w.down reason
-drop_batch_is w InvalidId = refl
-drop_batch_is w QueueFull = refl
-drop_batch_is w NoMemory = refl
-drop_batch_is w Evicted = refl
-drop_batch_is w NotSampled = refl
-drop_batch_is w LateNotSampled = refl
-drop_batch_is w ExporterDown = refl
+drop_batch_is : (c : CoreConfig) (w : World) (reason : Reason) → drop_batch_applies c w reason ≡ may_drop_batch c w.down reason
+drop_batch_is c w InvalidId = refl
+drop_batch_is c w QueueFull = refl
+drop_batch_is c w NoMemory = refl
+drop_batch_is c w Evicted = refl
+drop_batch_is c w NotSampled = refl
+drop_batch_is c w LateNotSampled = refl
+drop_batch_is c w ExporterDown = refl
 
 -- a shard that has shipped all
 abbrev pub shipped_out : CoreShard → CoreShard
@@ -126,8 +126,8 @@ module _ (c : CoreConfig) (lanes shards : ℕ) (received : ℕ → List Arrival)
   export_acts (batch_dropped why ∷ acts) f x C end all out e =
       let h = and_then_some _ (after_act c x (batch_dropped why)) end e in
       let next : ExporterMade = record x { counted = x.counted ++ counts why x.batch; batch = [] } in
-      let i = some_unless (is_empty x.batch || not (may_drop_batch x.down why)) next h.0 h.1 in
+      let i = some_unless (is_empty x.batch || not (may_drop_batch c x.down why)) next h.0 h.1 in
       let D = C ++ counts why x.batch in
-      act_then f x next C D end (leads_one c _ _ (drop_batch why) (λ l k. refl) (ap (λ b. cond (is_empty x.batch || not b) None (Some (stage f next D))) (drop_batch_is (stage f x C) why) ∙ ap (λ b. cond b None (Some (stage f next D))) i.0))
+      act_then f x next C D end (leads_one c _ _ (drop_batch why) (λ l k. refl) (ap (λ b. cond (is_empty x.batch || not b) None (Some (stage f next D))) (drop_batch_is c (stage f x C) why) ∙ ap (λ b. cond b None (Some (stage f next D))) i.0))
       (λ reason. omega (arith, under_append reason C (counts why x.batch), under_append reason x.counted (counts why x.batch)))
       (export_acts acts f next D end all out (subst (λ (z : ExporterMade). after_acts c z acts ≡ Some end) (sym i.1) h.2))

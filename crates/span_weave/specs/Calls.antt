@@ -47,7 +47,7 @@ pub record ActsOf (c : CoreConfig) (old : ExporterState) (calls : List (ℕ × E
   pub handed : end.handed ≡ handed_in old.batch calls
   pub counted : end.counted ≡ counted_in old.batch calls
 
--- the calls on an exporter of this batch size are acts
+-- the calls on an exporter of this batch size, with such a destination, are acts
 abbrev pub CallsAreActs : Type 0
-CallsAreActs = (c : CoreConfig) (old new : ExporterState) (calls : List (ℕ × ExporterCall)) → old.size ≡ c.batch_size → AllByRecursion (λ (x : ℕ × ExporterCall). NotesNothing x.1) calls
+CallsAreActs = (c : CoreConfig) (old new : ExporterState) (calls : List (ℕ × ExporterCall)) → old.size ≡ c.batch_size → old.manner ≡ c.manner → AllByRecursion (λ (x : ℕ × ExporterCall). NotesNothing x.1) calls
     → CallsLead old (calls_of calls) new → ActsOf c old calls new

@@ -10,7 +10,7 @@ use Rattle.journal_theory.specs.Journal.{Entry, Journal, IsAnswered}
 use Rattle.journal_theory.specs.Fate.{DroppedSpan, counts, output}
 use Rattle.journal_theory.specs.Marked.{MarksApply}
 use Rattle.lane_queue.specs.Merges.{of}
-use Rattle.world_theory.specs.World.{CoreConfig, goes_to, settings_for}
+use Rattle.world_theory.specs.World.{may_give_up, CoreConfig, goes_to, settings_for}
 use Rattle.world_theory.specs.Step.{is_of_conn, is_empty}
 
 -- ---- what each thread did
@@ -48,7 +48,7 @@ pub data ExporterAct : Type 0 where
   pulled : (shard : ℕ) → Arrival → ExporterAct
   -- the open batch was handed over
   handed_over : ExporterAct
-  -- the sink failed
+  -- the destination went down
   failed : ExporterAct
   -- the open batch was given up
   batch_dropped : Reason → ExporterAct
@@ -86,7 +86,7 @@ journal_of t shard = reverse (map (λ (x : ℕ × Entry). x.1) (t.popped shard))
 -- ---- the exporter by itself
 
 -- what the exporter's acts made: the open batch, the batches that were handed over, what was counted, and whether the
--- sink is down
+-- destination is down
 pub record ExporterMade : Type 0 where
   pub batch : List Arrival
   pub handed : List (List Arrival)
@@ -97,19 +97,19 @@ pub record ExporterMade : Type 0 where
 abbrev pub new_export : ExporterMade
 new_export = record { batch = []; handed = []; counted = []; down = false }
 
--- a batch may be given up for want of memory, or because the sink is down
-abbrev pub may_drop_batch : (down : Bool) → Reason → Bool
-may_drop_batch down NoMemory = true
-may_drop_batch down ExporterDown = down
-may_drop_batch down _ = false
+-- a batch may be given up for want of memory, or because the destination refused it or is down
+abbrev pub may_drop_batch : CoreConfig → (down : Bool) → Reason → Bool
+may_drop_batch c down NoMemory = true
+may_drop_batch c down ExporterDown = may_give_up c down
+may_drop_batch c down _ = false
 
 -- after one act: a full batch takes no span, an empty one is neither handed over nor given up, and nothing is handed
--- over where the sink is down
+-- over where the destination is down
 abbrev pub after_act : CoreConfig → ExporterMade → ExporterAct → Option ExporterMade
 after_act c x (pulled shard a) = if nat_lt (length x.batch) c.batch_size then Some (record x { batch = x.batch ++ a ∷ [] }) else None
 after_act c x handed_over = if is_empty x.batch || x.down then None else Some (record x { handed = x.handed ++ x.batch ∷ []; batch = [] })
 after_act c x failed = if x.down then None else Some (record x { down = true })
-after_act c x (batch_dropped reason) = if is_empty x.batch || not (may_drop_batch x.down reason) then None else Some (record x { counted = x.counted ++ counts reason x.batch; batch = [] })
+after_act c x (batch_dropped reason) = if is_empty x.batch || not (may_drop_batch c x.down reason) then None else Some (record x { counted = x.counted ++ counts reason x.batch; batch = [] })
 
 -- after these acts
 abbrev pub after_acts : CoreConfig → ExporterMade → List ExporterAct → Option ExporterMade

@@ -251,8 +251,8 @@ module _ (c : CoreConfig) (room : HasRoom c.shard.num_traces) (w : World) (given
       absurd (both (is_empty w.batch) (ap is_empty no_batch) (or_both (is_empty w.batch) w.down m.0).0)
   not_enabled fail next e = let m = some_unless w.down _ next e in (refl, ap (λ (w : World). w.handed) (sym m.1), ap (λ (w : World). w.counted) (sym m.1))
   not_enabled (drop_batch reason) next e =
-      let m = some_unless (is_empty w.batch || not (drop_batch_applies w reason)) _ next e in
-      absurd (both (is_empty w.batch) (ap is_empty no_batch) (or_both (is_empty w.batch) (not (drop_batch_applies w reason)) m.0).0)
+      let m = some_unless (is_empty w.batch || not (drop_batch_applies c w reason)) _ next e in
+      absurd (both (is_empty w.batch) (ap is_empty no_batch) (or_both (is_empty w.batch) (not (drop_batch_applies c w reason)) m.0).0)
 
 pub nothing_after_close : OfEachRun NothingAfterClose
 nothing_after_close = of_each_answered (λ c w. Unit {0}) NothingAfterClose (λ c room lanes shards. tt) (λ c room w next st h. tt) (λ c room w h given closed s next f. not_enabled c room w given closed s next f)

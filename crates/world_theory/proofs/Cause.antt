@@ -1,6 +1,6 @@
 -- What is counted has its cause.
 -- For the laws of the headline, `headline` and each of its parts.
-use Rattle.std.proofs.Common.{◌≡◌, ℕ, suc, ◌+◌, Bool, true, false, cond, not, List, [], ◌∷◌, ◌++◌, length, filter, flat_map, slice_get, slice_set, count_by, is_some, Option, Some, None, is_none, option_to_list, IsSome, ◌⊎◌, inl, inr, refl, ap, sym, subst, ◌∙◌, append_assoc}
+use Rattle.std.proofs.Common.{◌≡◌, ℕ, suc, ◌+◌, Bool, true, false, cond, not, ◌||◌, ◌||◌, List, [], ◌∷◌, ◌++◌, length, filter, flat_map, slice_get, slice_set, count_by, is_some, Option, Some, None, is_none, option_to_list, IsSome, ◌⊎◌, inl, inr, refl, ap, sym, subst, ◌∙◌, append_assoc}
 use Rattle.std.proofs.lemmas.List.{append-nil}
 use Rattle.std.proofs.lemmas.Bool.{cases_eq}
 use Rattle.std.proofs.Math.Numerals.{add-one}
@@ -14,7 +14,8 @@ use Rattle.span_ids.specs.declared.outcome.Verdict.{Verdict}
 use Rattle.span_ids.specs.declared.outcome.Verdict.TheVariants.{Sampled, NotSampled}
 use Rattle.span_ids.specs.declared.outcome.Reason.{Reason}
 use Rattle.span_ids.specs.declared.outcome.Reason.TheVariants.{InvalidId, QueueFull, NoMemory, Evicted, LateNotSampled, ExporterDown, NotSampled as DecidedAgainst}
-use Rattle.world_theory.specs.World.{CoreConfig, CoreLane, CoreShard, World, new_world, new_lane, new_shard, settings, has_due, ids_go_to}
+use Rattle.span_sink.specs.Manners.{refuses}
+use Rattle.world_theory.specs.World.{may_give_up, CoreConfig, CoreLane, CoreShard, World, new_world, new_lane, new_shard, settings, has_due, ids_go_to}
 use Rattle.world_theory.specs.Step.{has_ids, arrivals, is_of_conn, drop_batch_applies}
 use Rattle.journal_theory.proofs.Notes.{HasRoom, is_open}
 use Rattle.journal_theory.proofs.ListFacts.{Each, Each-append, Each-left, Each-right, Each-weaker, Each-both, Each-filter, Each-passes, Split, Split-more, Split-behind, spill, spill-append}
@@ -94,14 +95,18 @@ cause_set s shards down i sh sh' g f b DecidedAgainst h = hasf_set s shards i sh
 cause_set s shards down i sh sh' g f b LateNotSampled h = hasf_set s shards i sh sh' (is_counted LateNotSampled) g b (f.counted b LateNotSampled) h
 cause_set s shards down i sh sh' g f b ExporterDown h = (h.0, hasf_set s shards i sh sh' is_released g b (f.released b) h.1)
 
-cause_down : (s : Settings) (shards : List CoreShard) (down : Bool) (b : Arrival) (r : Reason) → Cause s shards down b r → Cause s shards true b r
-cause_down s shards down b InvalidId h = h
-cause_down s shards down b QueueFull h = h
-cause_down s shards down b NoMemory h = h
-cause_down s shards down b Evicted h = h
-cause_down s shards down b DecidedAgainst h = h
-cause_down s shards down b LateNotSampled h = h
-cause_down s shards down b ExporterDown h = (refl, h.1)
+or_true : (b : Bool) → b || true ≡ true
+or_true true = refl
+or_true false = refl
+
+cause_down : (s : Settings) (shards : List CoreShard) (down later : Bool) → later ≡ true → (b : Arrival) (r : Reason) → Cause s shards down b r → Cause s shards later b r
+cause_down s shards down later e b InvalidId h = h
+cause_down s shards down later e b QueueFull h = h
+cause_down s shards down later e b NoMemory h = h
+cause_down s shards down later e b Evicted h = h
+cause_down s shards down later e b DecidedAgainst h = h
+cause_down s shards down later e b LateNotSampled h = h
+cause_down s shards down later e b ExporterDown h = (e, h.1)
 
 settles_same : (s : Settings) (J : Journal) → Settles s J J
 settles_same s J = record { counted = λ a r h. h; released = λ a h. h }
@@ -151,8 +156,8 @@ module _ (s : Settings) (lanes : List CoreLane) (shards : List CoreShard) (past 
   new_past : (past' : List Arrival) → Each (IsReceived lanes) past' → Sourced s lanes shards past' counted down
   new_past past' k = record { unrouted = h.unrouted; lines = h.lines; gone = k; caused = h.caused }
 
-  sink_down : Sourced s lanes shards past counted true
-  sink_down = record { unrouted = h.unrouted; lines = h.lines; gone = h.gone; caused = Each-weaker (Caused s lanes shards down) (Caused s lanes shards true) counted (λ n k. record { b = k.b; same = k.same; received = k.received; cause = cause_down s shards down k.b n.reason k.cause }) h.caused }
+  sink_down : (later : Bool) → later ≡ true → Sourced s lanes shards past counted later
+  sink_down later e = record { unrouted = h.unrouted; lines = h.lines; gone = h.gone; caused = Each-weaker (Caused s lanes shards down) (Caused s lanes shards later) counted (λ n k. record { b = k.b; same = k.same; received = k.received; cause = cause_down s shards down later e k.b n.reason k.cause }) h.caused }
 
 -- ---- what a taken span and a decision count
 
@@ -208,7 +213,7 @@ module _ (s : Settings) (room : HasRoom s.num_traces) (lanes : List CoreLane) (s
 -- ---- a step
 
 abbrev pub SourcedAt : CoreConfig → World → Type 0
-SourcedAt c w = Sourced (settings c w) w.lanes w.shards (behind w) w.counted w.down
+SourcedAt c w = Sourced (settings c w) w.lanes w.shards (behind w) w.counted (may_give_up c w.down)
 
 goes_has_ids : (n i : ℕ) (ids : Option Ids) → ids_go_to n i ids ≡ true → is_some ids ≡ true
 goes_has_ids n i None e = absurd (cc e)
@@ -229,10 +234,10 @@ module _ (c : CoreConfig) (room : HasRoom c.shard.num_traces) (w : World) (h : S
   still i sh after g e q = subst (λ z. Each (IsReceived w.lanes) z) (now_noted sh e ∙ ap (λ z. line_of sh.unshipped z sh.queue) (sym q) ∙ ap (λ z. line_of z after sh.queue) (sym (append-nil sh.unshipped))) (h.lines i sh g)
 
   abbrev Next : World → Type 0
-  Next next = Sourced s next.lanes next.shards (behind next) next.counted next.down
+  Next next = Sourced s next.lanes next.shards (behind next) next.counted (may_give_up c next.down)
 
   -- the batch goes under the reason
-  drop_batch_cause : (r : Reason) → drop_batch_applies w r ≡ true → (b : Arrival) → HasReleased s w.shards b → Cause s w.shards w.down b r
+  drop_batch_cause : (r : Reason) → drop_batch_applies c w r ≡ true → (b : Arrival) → HasReleased s w.shards b → Cause s w.shards (may_give_up c w.down) b r
   drop_batch_cause InvalidId e b k = absurd (cc e)
   drop_batch_cause QueueFull e b k = absurd (cc e)
   drop_batch_cause Evicted e b k = absurd (cc e)
@@ -247,11 +252,11 @@ module _ (c : CoreConfig) (room : HasRoom c.shard.num_traces) (w : World) (h : S
       let l' : CoreLane = record { received = l.received ++ new; unrouted = l.unrouted ++ filter has_ids new; ended = l.ended } in
       let own : Each (IsReceived (slice_set w.lanes lane l')) new = Each-weaker (λ (b : Arrival). Split b new) (IsReceived (slice_set w.lanes lane l')) new (λ b k. record { lane = lane; l = l'; at = get_set w.lanes lane l l' g; within = Split-behind b l.received new k }) (Split-each new) in
       let grow = λ (b : Arrival) (k : Split b l.received). Split-more b l.received new k in
-      let m = lane_set s w.lanes w.shards (behind w) w.counted w.down h lane l l' g grow
+      let m = lane_set s w.lanes w.shards (behind w) w.counted (may_give_up c w.down) h lane l l' g grow
       (Each-append (IsReceived (slice_set w.lanes lane l')) l.unrouted (filter has_ids new) (Each-weaker (IsReceived w.lanes) (IsReceived (slice_set w.lanes lane l')) l.unrouted (λ b k. received_set w.lanes lane l l' g grow b k) (h.unrouted lane l g)) (Each-filter (IsReceived (slice_set w.lanes lane l')) has_ids new own)) in
-      more_counted s (slice_set w.lanes lane l') w.shards (behind w) w.counted w.down m (counts InvalidId (filter (λ (a : Arrival). not (has_ids a)) new))
-      (counts_caused s (slice_set w.lanes lane l') w.shards w.down InvalidId (filter (λ (a : Arrival). not (has_ids a)) new)
-      (Each-both (IsReceived (slice_set w.lanes lane l')) (λ (a : Arrival). not (has_ids a) ≡ true) (λ (b : Arrival). IsReceived (slice_set w.lanes lane l') b × Cause s w.shards w.down b InvalidId) (filter (λ (a : Arrival). not (has_ids a)) new)
+      more_counted s (slice_set w.lanes lane l') w.shards (behind w) w.counted (may_give_up c w.down) m (counts InvalidId (filter (λ (a : Arrival). not (has_ids a)) new))
+      (counts_caused s (slice_set w.lanes lane l') w.shards (may_give_up c w.down) InvalidId (filter (λ (a : Arrival). not (has_ids a)) new)
+      (Each-both (IsReceived (slice_set w.lanes lane l')) (λ (a : Arrival). not (has_ids a) ≡ true) (λ (b : Arrival). IsReceived (slice_set w.lanes lane l') b × Cause s w.shards (may_give_up c w.down) b InvalidId) (filter (λ (a : Arrival). not (has_ids a)) new)
       (λ b x y. (x, no_ids b.rec.span.ids y)) (Each-filter (IsReceived (slice_set w.lanes lane l')) (λ (a : Arrival). not (has_ids a)) new own) (Each-passes (λ (a : Arrival). not (has_ids a)) new))))
   sourced next (routed lane shard l sh a rest gl gs t e) = subst Next e (
       let sh' : CoreShard = record sh { queue = sh.queue ++ a ∷ [] } in
@@ -259,17 +264,17 @@ module _ (c : CoreConfig) (room : HasRoom c.shard.num_traces) (w : World) (h : S
       let u = subst (λ z. Each (IsReceived w.lanes) z) t.was (h.unrouted lane l gl) in
       let v = Each-right (IsReceived w.lanes) t.front (a ∷ t.back) u in
       let grown : line s sh ++ a ∷ [] ≡ line s sh' = (simp append_assoc) in
-      let m = shard_set s w.lanes w.shards (behind w) w.counted w.down h shard sh sh' gs (settles_same s sh.journal) (subst (λ z. Each (IsReceived w.lanes) z) grown (Each-append (IsReceived w.lanes) (line s sh) (a ∷ []) (h.lines shard sh gs) (v.0, tt))) in
+      let m = shard_set s w.lanes w.shards (behind w) w.counted (may_give_up c w.down) h shard sh sh' gs (settles_same s sh.journal) (subst (λ z. Each (IsReceived w.lanes) z) grown (Each-append (IsReceived w.lanes) (line s sh) (a ∷ []) (h.lines shard sh gs) (v.0, tt))) in
       let left = subst (λ z. Each (IsReceived w.lanes) z) (sym t.becomes) (Each-append (IsReceived w.lanes) t.front t.back (Each-left (IsReceived w.lanes) t.front (a ∷ t.back) u) v.1) in
-      lane_set s w.lanes (slice_set w.shards shard sh') (behind w) w.counted w.down m lane l l' gl (λ b k. k) (Each-weaker (IsReceived w.lanes) (IsReceived (slice_set w.lanes lane l')) rest (λ b k. received_set w.lanes lane l l' gl (λ b k. k) b k) left))
+      lane_set s w.lanes (slice_set w.shards shard sh') (behind w) w.counted (may_give_up c w.down) m lane l l' gl (λ b k. k) (Each-weaker (IsReceived w.lanes) (IsReceived (slice_set w.lanes lane l')) rest (λ b k. received_set w.lanes lane l l' gl (λ b k. k) b k) left))
   sourced next (refused_by lane shard l a rest gl t e) = subst Next e (
       let l' : CoreLane = record l { unrouted = rest } in
       let u = subst (λ z. Each (IsReceived w.lanes) z) t.was (h.unrouted lane l gl) in
       let v = Each-right (IsReceived w.lanes) t.front (a ∷ t.back) u in
       let left = subst (λ z. Each (IsReceived w.lanes) z) (sym t.becomes) (Each-append (IsReceived w.lanes) t.front t.back (Each-left (IsReceived w.lanes) t.front (a ∷ t.back) u) v.1) in
-      let m = lane_set s w.lanes w.shards (behind w) w.counted w.down h lane l l' gl (λ b k. k) (Each-weaker (IsReceived w.lanes) (IsReceived (slice_set w.lanes lane l')) rest (λ b k. received_set w.lanes lane l l' gl (λ b k. k) b k) left) in
-      more_counted s (slice_set w.lanes lane l') w.shards (behind w) w.counted w.down m (counts QueueFull (a ∷ []))
-      (counts_caused s (slice_set w.lanes lane l') w.shards w.down QueueFull (a ∷ []) ((received_set w.lanes lane l l' gl (λ b k. k) a v.0, goes_has_ids (length w.shards) shard a.rec.span.ids t.passes), tt)))
+      let m = lane_set s w.lanes w.shards (behind w) w.counted (may_give_up c w.down) h lane l l' gl (λ b k. k) (Each-weaker (IsReceived w.lanes) (IsReceived (slice_set w.lanes lane l')) rest (λ b k. received_set w.lanes lane l l' gl (λ b k. k) b k) left) in
+      more_counted s (slice_set w.lanes lane l') w.shards (behind w) w.counted (may_give_up c w.down) m (counts QueueFull (a ∷ []))
+      (counts_caused s (slice_set w.lanes lane l') w.shards (may_give_up c w.down) QueueFull (a ∷ []) ((received_set w.lanes lane l l' gl (λ b k. k) a v.0, goes_has_ids (length w.shards) shard a.rec.span.ids t.passes), tt)))
   sourced next (took_span shard refused lost sh a rest g q d m e) = subst Next e (
       let v = has_valid a.key c room w sh.journal refused lost a.rec.span.ids m in
       let entry : Entry = record { item = Span a; refused = refused; lost = lost; answers = [] } in
@@ -280,22 +285,22 @@ module _ (c : CoreConfig) (room : HasRoom c.shard.num_traces) (w : World) (h : S
       let held = Each-left (IsReceived w.lanes) (content s sh.journal (notes s sh.journal)) (a ∷ rest) tail in
       let first = (Each-right (IsReceived w.lanes) (content s sh.journal (notes s sh.journal)) (a ∷ rest) tail).0 in
       let k = line_taken a v.0.trace sh.unshipped (content s sh.journal (notes s sh.journal)) _ did.released rest did.counted (ap (ids_have_trace v.0.trace) v.1 ∙ same_trace-refl v.0.trace) (span_taken s room sh.journal a v.0 v.1 refused lost) in
-      let n = shard_set s w.lanes w.shards (behind w) w.counted w.down h shard sh sh' g (settles_more s room sh.journal (record { item = Span a; refused = refused; lost = lost; answers = [] })) (k.each (IsReceived w.lanes) was) in
-      more_counted s w.lanes (slice_set w.shards shard sh') (behind w) w.counted w.down n did.counted
-      (caused_by_span s room w.lanes (slice_set w.shards shard sh') w.down sh.journal a v.0 v.1 refused lost first held (λ b became x. record { shard = shard; sh = sh'; at = get_set w.shards shard sh sh' g; fate = x })))
+      let n = shard_set s w.lanes w.shards (behind w) w.counted (may_give_up c w.down) h shard sh sh' g (settles_more s room sh.journal (record { item = Span a; refused = refused; lost = lost; answers = [] })) (k.each (IsReceived w.lanes) was) in
+      more_counted s w.lanes (slice_set w.shards shard sh') (behind w) w.counted (may_give_up c w.down) n did.counted
+      (caused_by_span s room w.lanes (slice_set w.shards shard sh') (may_give_up c w.down) sh.journal a v.0 v.1 refused lost first held (λ b became x. record { shard = shard; sh = sh'; at = get_set w.shards shard sh sh' g; fate = x })))
   sourced next (took_tick shard moment sh g d m e) = subst Next e (
       let sh' : CoreShard = record { queue = sh.queue; journal = record { item = Tick moment; refused = false; lost = false; answers = [] } ∷ sh.journal; dealt = 0; unshipped = sh.unshipped ++ [] } in
-      more_counted s w.lanes (slice_set w.shards shard sh') (behind w) w.counted w.down
-      (shard_set s w.lanes w.shards (behind w) w.counted w.down h shard sh sh' g (settles_more s room sh.journal (record { item = Tick moment; refused = false; lost = false; answers = [] })) (still shard sh _ g d (stays_by_tick s room sh.journal moment))) [] tt)
+      more_counted s w.lanes (slice_set w.shards shard sh') (behind w) w.counted (may_give_up c w.down)
+      (shard_set s w.lanes w.shards (behind w) w.counted (may_give_up c w.down) h shard sh sh' g (settles_more s room sh.journal (record { item = Tick moment; refused = false; lost = false; answers = [] })) (still shard sh _ g d (stays_by_tick s room sh.journal moment))) [] tt)
   sourced next (closed_by lane l g p e) = subst Next e (
-      lane_set s w.lanes w.shards (behind w) w.counted w.down h lane l (record l { ended = true }) g (λ b k. k) (Each-weaker (IsReceived w.lanes) (IsReceived (slice_set w.lanes lane (record l { ended = true }))) l.unrouted (λ b k. received_set w.lanes lane l (record l { ended = true }) g (λ b k. k) b k) (h.unrouted lane l g)))
+      lane_set s w.lanes w.shards (behind w) w.counted (may_give_up c w.down) h lane l (record l { ended = true }) g (λ b k. k) (Each-weaker (IsReceived w.lanes) (IsReceived (slice_set w.lanes lane (record l { ended = true }))) l.unrouted (λ b k. received_set w.lanes lane l (record l { ended = true }) g (λ b k. k) b k) (h.unrouted lane l g)))
   sourced next (took_end shard sender sh g d m p e) = subst Next e (
       let sh' : CoreShard = record { queue = sh.queue; journal = record { item = End sender; refused = false; lost = false; answers = [] } ∷ sh.journal; dealt = 0; unshipped = sh.unshipped ++ [] } in
-      more_counted s w.lanes (slice_set w.shards shard sh') (behind w) w.counted w.down
-      (shard_set s w.lanes w.shards (behind w) w.counted w.down h shard sh sh' g (settles_more s room sh.journal (record { item = End sender; refused = false; lost = false; answers = [] })) (still shard sh _ g d (stays_by_end s room sh.journal sender))) [] tt)
+      more_counted s w.lanes (slice_set w.shards shard sh') (behind w) w.counted (may_give_up c w.down)
+      (shard_set s w.lanes w.shards (behind w) w.counted (may_give_up c w.down) h shard sh sh' g (settles_more s room sh.journal (record { item = End sender; refused = false; lost = false; answers = [] })) (still shard sh _ g d (stays_by_end s room sh.journal sender))) [] tt)
   sourced next (answered_by shard sh answers o g d i e) = subst Next e (
       let sh' : CoreShard = record sh { journal = answered sh.journal answers } in
-      shard_set s w.lanes w.shards (behind w) w.counted w.down h shard sh sh' g (settles_answered s room sh.journal sh.dealt answers o d i)
+      shard_set s w.lanes w.shards (behind w) w.counted (may_give_up c w.down) h shard sh sh' g (settles_answered s room sh.journal sh.dealt answers o d i)
       (subst (λ z. Each (IsReceived w.lanes) z) (ap (λ z. line_of sh.unshipped z sh.queue) (sym (content_same s room sh.journal sh.dealt answers o d i))) (h.lines shard sh g)))
   sourced next (decided_one shard sh d g i e) = subst Next e (
       let did = effect_of_decision d in
@@ -306,30 +311,30 @@ module _ (c : CoreConfig) (room : HasRoom c.shard.num_traces) (w : World) (h : S
       let spans = Each-left (IsReceived w.lanes) d.spans dealing.newer (Each-right (IsReceived w.lanes) dealing.older (d.spans ++ dealing.newer) (subst (λ z. Each (IsReceived w.lanes) z) dealing.was held)) in
       let moved = (line_dealt d sh.unshipped (content s sh.journal (notes_dealt s sh.journal sh.dealt)) after sh.queue dealing).each (IsReceived w.lanes) (h.lines shard sh g) in
       let now = subst (λ z. Each (IsReceived w.lanes) z) (ap (λ z. line_of (sh.unshipped ++ did.released) (content s sh.journal (notes_dealt s sh.journal z)) sh.queue) (sym (add-one sh.dealt))) moved in
-      more_counted s w.lanes (slice_set w.shards shard sh') (behind w) w.counted w.down (shard_set s w.lanes w.shards (behind w) w.counted w.down h shard sh sh' g (settles_same s sh.journal) now) did.counted
-      (caused_by_decision s room w.lanes (slice_set w.shards shard sh') w.down sh.journal sh.dealt d i spans (λ b became x. record { shard = shard; sh = sh'; at = get_set w.shards shard sh sh' g; fate = x })))
+      more_counted s w.lanes (slice_set w.shards shard sh') (behind w) w.counted (may_give_up c w.down) (shard_set s w.lanes w.shards (behind w) w.counted (may_give_up c w.down) h shard sh sh' g (settles_same s sh.journal) now) did.counted
+      (caused_by_decision s room w.lanes (slice_set w.shards shard sh') (may_give_up c w.down) sh.journal sh.dealt d i spans (λ b became x. record { shard = shard; sh = sh'; at = get_set w.shards shard sh sh' g; fate = x })))
   sourced next (shipped shard sh a rest g u e) = subst Next e (
       let sh' : CoreShard = record sh { unshipped = rest } in
       let was = subst (λ z. Each (IsReceived w.lanes) z) (ap (λ z. line_of z (content s sh.journal (notes_dealt s sh.journal sh.dealt)) sh.queue) u) (h.lines shard sh g) in
       let past = flat_map (λ (b : List Arrival). b) w.handed ++ (w.batch ++ (w.exported ++ a ∷ [])) in
       let q : behind w ++ a ∷ [] ≡ past = (simp append_assoc) in
-      new_past s w.lanes (slice_set w.shards shard sh') (behind w) w.counted w.down (shard_set s w.lanes w.shards (behind w) w.counted w.down h shard sh sh' g (settles_same s sh.journal) was.1) past
+      new_past s w.lanes (slice_set w.shards shard sh') (behind w) w.counted (may_give_up c w.down) (shard_set s w.lanes w.shards (behind w) w.counted (may_give_up c w.down) h shard sh sh' g (settles_same s sh.journal) was.1) past
       (subst (λ z. Each (IsReceived w.lanes) z) q (Each-append (IsReceived w.lanes) (behind w) (a ∷ []) h.gone (was.0, tt))))
-  sourced next (pulled a rest u e) = subst Next e (new_past s w.lanes w.shards (behind w) w.counted w.down h _ (subst (λ z. Each (IsReceived w.lanes) z) (behind_pulled w a rest u) h.gone))
-  sourced next (handed_over b d e) = subst Next e (new_past s w.lanes w.shards (behind w) w.counted w.down h _ (subst (λ z. Each (IsReceived w.lanes) z) (behind_handed w) h.gone))
-  sourced next (failed d e) = subst Next e (sink_down s w.lanes w.shards (behind w) w.counted w.down h)
+  sourced next (pulled a rest u e) = subst Next e (new_past s w.lanes w.shards (behind w) w.counted (may_give_up c w.down) h _ (subst (λ z. Each (IsReceived w.lanes) z) (behind_pulled w a rest u) h.gone))
+  sourced next (handed_over b d e) = subst Next e (new_past s w.lanes w.shards (behind w) w.counted (may_give_up c w.down) h _ (subst (λ z. Each (IsReceived w.lanes) z) (behind_handed w) h.gone))
+  sourced next (failed d e) = subst Next e (sink_down s w.lanes w.shards (behind w) w.counted (may_give_up c w.down) h (may_give_up c true) (or_true (refuses c.manner)))
   sourced next (batch_dropped r b a e) = subst Next e (
       let front = flat_map (λ (b : List Arrival). b) w.handed in
       let tail = Each-right (IsReceived w.lanes) (flat_map (λ (b : List Arrival). b) w.handed) (w.batch ++ w.exported) h.gone in
       let batch = Each-left (IsReceived w.lanes) w.batch w.exported tail in
       let released = Each-left (HasReleased s w.shards) w.batch w.exported (Each-right (HasReleased s w.shards) (flat_map (λ (b : List Arrival). b) w.handed) (w.batch ++ w.exported) rel.gone) in
-      more_counted s w.lanes w.shards (flat_map (λ (b : List Arrival). b) w.handed ++ ([] ++ w.exported)) w.counted w.down
-      (new_past s w.lanes w.shards (behind w) w.counted w.down h (flat_map (λ (b : List Arrival). b) w.handed ++ ([] ++ w.exported)) (Each-append (IsReceived w.lanes) (flat_map (λ (b : List Arrival). b) w.handed) w.exported (Each-left (IsReceived w.lanes) (flat_map (λ (b : List Arrival). b) w.handed) (w.batch ++ w.exported) h.gone) (Each-right (IsReceived w.lanes) w.batch w.exported tail)))
+      more_counted s w.lanes w.shards (flat_map (λ (b : List Arrival). b) w.handed ++ ([] ++ w.exported)) w.counted (may_give_up c w.down)
+      (new_past s w.lanes w.shards (behind w) w.counted (may_give_up c w.down) h (flat_map (λ (b : List Arrival). b) w.handed ++ ([] ++ w.exported)) (Each-append (IsReceived w.lanes) (flat_map (λ (b : List Arrival). b) w.handed) w.exported (Each-left (IsReceived w.lanes) (flat_map (λ (b : List Arrival). b) w.handed) (w.batch ++ w.exported) h.gone) (Each-right (IsReceived w.lanes) w.batch w.exported tail)))
       (counts r w.batch)
-      (counts_caused s w.lanes w.shards w.down r w.batch (Each-both (IsReceived w.lanes) (HasReleased s w.shards) (λ (b : Arrival). IsReceived w.lanes b × Cause s w.shards w.down b r) w.batch (λ b x y. (x, drop_batch_cause r a b y)) batch released)))
+      (counts_caused s w.lanes w.shards (may_give_up c w.down) r w.batch (Each-both (IsReceived w.lanes) (HasReleased s w.shards) (λ (b : Arrival). IsReceived w.lanes b × Cause s w.shards (may_give_up c w.down) b r) w.batch (λ b x y. (x, drop_batch_cause r a b y)) batch released)))
 
 pub sourced_step : (c : CoreConfig) → HasRoom c.shard.num_traces → (w next : World) → Stepped c w next → SourcedAt c w → ReleasingAt c w → SourcedAt c next
-sourced_step c room w next st h rel = subst (λ (s : Settings). Sourced s next.lanes next.shards (behind next) next.counted next.down) (sym (same_settings c w next st)) (sourced c room w h rel next st)
+sourced_step c room w next st h rel = subst (λ (s : Settings). Sourced s next.lanes next.shards (behind next) next.counted (may_give_up c next.down)) (sym (same_settings c w next st)) (sourced c room w h rel next st)
 
 pub sourced_new : (c : CoreConfig) → (lanes shards : ℕ) → SourcedAt c (new_world lanes shards)
 sourced_new c lanes shards = record {

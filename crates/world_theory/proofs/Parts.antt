@@ -13,7 +13,7 @@ use Rattle.span_ids.specs.declared.outcome.Verdict.{Verdict}
 use Rattle.span_ids.specs.declared.outcome.Verdict.TheVariants.{Sampled, NotSampled}
 use Rattle.span_ids.specs.declared.outcome.Reason.{Reason}
 use Rattle.span_ids.specs.declared.outcome.Reason.TheVariants.{InvalidId, QueueFull, NoMemory, Evicted, LateNotSampled, ExporterDown, NotSampled as DecidedAgainst}
-use Rattle.world_theory.specs.World.{CoreConfig, CoreLane, CoreShard, World, settings, has_due, same_key}
+use Rattle.world_theory.specs.World.{may_give_up, CoreConfig, CoreLane, CoreShard, World, settings, has_due, same_key}
 use Rattle.journal_theory.specs.Marked.{marks_apply_to_ids, marks_apply_to}
 use Rattle.world_theory.specs.Places.{Place, buffered, counted_under}
 use Rattle.world_theory.specs.Headline.{TakenSpan, fate_of, HasFate, HasCause, WasReceived, is_past_release, is_where, is_where_late, is_buffered, is_span_with, was_taken, handed_spans, PlaceFitsFate, CountedWithCause, MeetsRemembered, OnlyReleased, ShipsOutput, EndsLast, OfEachRun, Headline}
@@ -150,7 +150,7 @@ module _ (c : CoreConfig) (room : HasRoom c.shard.num_traces) (w : World) (h : W
       let most : occ a.key (all_received w.lanes) ≤ 1 = omega (arith, occ_all a.key w.lanes, got_at_most_once a.key 0 w.lanes h.ordered.accounted.numbered) in
       (one_hit (λ (x : Arrival). same_key x.key a.key) (all_received w.lanes) b a most (ap (λ (k : ArrivalKey). same_key k a.key) s ∙ key_self a.key) (key_self a.key) (in_all b w.lanes j m e q) (in_all a w.lanes i l g p)).0
 
-  has_cause : (a : Arrival) (r : Reason) → (is_lane_reason r ≡ true → 0 < before_journals a.key w) → Cause (settings c w) w.shards w.down a r → HasCause c w a r
+  has_cause : (a : Arrival) (r : Reason) → (is_lane_reason r ≡ true → 0 < before_journals a.key w) → Cause (settings c w) w.shards (may_give_up c w.down) a r → HasCause c w a r
   has_cause a InvalidId f k = k
   has_cause a QueueFull f k = (k, not_taken a.key (f refl))
   has_cause a NoMemory f (inl k) = inl (has_fate c w a (is_counted NoMemory) k)
@@ -165,11 +165,11 @@ module _ (c : CoreConfig) (room : HasRoom c.shard.num_traces) (w : World) (h : W
   by_place a r got (waits_in i sh b g q e x) = absurd (cc e)
   by_place a r got (sent_by i sh b g q e l f) = absurd (cc l)
   by_place a r got (in_counts n p e q) =
-      let x = Each-split (Caused (settings c w) w.lanes w.shards w.down) n w.counted p h.sourced.caused in
+      let x = Each-split (Caused (settings c w) w.lanes w.shards (may_give_up c w.down)) n w.counted p h.sourced.caused in
       let same : r ≡ n.reason = cc e in
       let b_is : x.b ≡ a = one_received a x.b got.lane x.received.lane got.of x.received.l got.in_world x.received.at (contains_split got.of.received a got.has) x.received.within (x.same ∙ q) in
       has_cause a r (λ l. omega (arith, split_hit (by_lane a.key) w.counted n p (ap (λ (r : Reason). is_lane_reason r && same_key n.key a.key) (sym same) ∙ ap (λ (b : Bool). b && same_key n.key a.key) l ∙ ap (λ (j : ArrivalKey). same_key j a.key) q ∙ key_self a.key)))
-      (subst (λ (r : Reason). Cause (settings c w) w.shards w.down a r) (sym same) (subst (λ (b : Arrival). Cause (settings c w) w.shards w.down b n.reason) b_is x.cause))
+      (subst (λ (r : Reason). Cause (settings c w) w.shards (may_give_up c w.down) a r) (sym same) (subst (λ (b : Arrival). Cause (settings c w) w.shards (may_give_up c w.down) b n.reason) b_is x.cause))
 
   with_cause : CountedWithCause c w
   with_cause a r got e = by_place a r got (stands c room w h a.key (counted_under r) e)

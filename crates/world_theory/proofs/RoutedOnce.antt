@@ -93,14 +93,14 @@ module _ (k : ArrivalKey) where
       by_finding (meets o v) = by_verdict LateNotSampled refl (a ∷ []) v
       by_finding opens = by_leaving (leaving s.num_traces (notes s J).openings)
 
-  drop_batch_reason : (w : World) (r : Reason) → drop_batch_applies w r ≡ true → is_lane_reason r ≡ false
-  drop_batch_reason w InvalidId e = absurd (cc e)
-  drop_batch_reason w QueueFull e = absurd (cc e)
-  drop_batch_reason w Evicted e = absurd (cc e)
-  drop_batch_reason w DecidedAgainst e = absurd (cc e)
-  drop_batch_reason w LateNotSampled e = absurd (cc e)
-  drop_batch_reason w NoMemory e = refl
-  drop_batch_reason w ExporterDown e = refl
+  drop_batch_reason : (c : CoreConfig) (w : World) (r : Reason) → drop_batch_applies c w r ≡ true → is_lane_reason r ≡ false
+  drop_batch_reason c w InvalidId e = absurd (cc e)
+  drop_batch_reason c w QueueFull e = absurd (cc e)
+  drop_batch_reason c w Evicted e = absurd (cc e)
+  drop_batch_reason c w DecidedAgainst e = absurd (cc e)
+  drop_batch_reason c w LateNotSampled e = absurd (cc e)
+  drop_batch_reason c w NoMemory e = refl
+  drop_batch_reason c w ExporterDown e = refl
 
   counted-append : (xs ys : List DroppedSpan) → tally (by_lane k) (xs ++ ys) ≡ tally (by_lane k) xs + tally (by_lane k) ys
   counted-append xs ys = tally-append (by_lane k) xs ys
@@ -166,7 +166,7 @@ module _ (k : ArrivalKey) where
     balance next (pulled a rest u e) = rw (← e) refl
     balance next (handed_over b d e) = rw (← e) refl
     balance next (failed d e) = rw (← e) refl
-    balance next (batch_dropped r b a e) = rw (← e) (omega (arith, counted-append w.counted (counts r w.batch), none_counts r (drop_batch_reason w r a) w.batch))
+    balance next (batch_dropped r b a e) = rw (← e) (omega (arith, counted-append w.counted (counts r w.batch), none_counts r (drop_batch_reason c w r a) w.batch))
 
 pub routed_once_step : (c : CoreConfig) (w next : World) → Stepped c w next → IsRoutedOnce w → IsRoutedOnce next
 routed_once_step c w next st h k = omega (arith, balance k c w next st, h k)

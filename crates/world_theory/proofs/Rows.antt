@@ -10,6 +10,7 @@ use Rattle.otlp_types.specs.declared.arrival.Record.{Record}
 use Rattle.span_ids.specs.declared.ids.TraceId.{TraceId}
 use Rattle.span_ids.specs.declared.outcome.Reason.TheVariants.{InvalidId, QueueFull, NoMemory, ExporterDown, Evicted, NotSampled, LateNotSampled}
 use Rattle.span_ids.specs.Route.{shard_of}
+use Rattle.span_sink.specs.Manners.{may_refuse}
 use Rattle.world_theory.specs.World.{CoreConfig}
 use Rattle.world_theory.specs.Step.{Step, receive, route, refuse, take, tick, close, end, decide, ship, pull, hand, fail, drop_batch, run}
 use Rattle.world_theory.specs.Places.{places, buffered, counted_under, queued, unshipped}
@@ -262,6 +263,18 @@ drop_batch_for_another_reason = refl
 pub drop_batch_while_down : numbers_under ExporterDown (run of_one 1 1 (batched ++ fail ∷ drop_batch ExporterDown ∷ [])) ≡ Some (0 ∷ [])
 unfolding notes
 drop_batch_while_down = refl
+
+-- where the destination may refuse a batch, one is given up while it is up, and the next one is handed over
+abbrev refusing : CoreConfig
+refusing = record of_one { manner = may_refuse }
+
+pub drop_batch_refused : numbers_under ExporterDown (run refusing 1 1 (batched ++ drop_batch ExporterDown ∷ [])) ≡ Some (0 ∷ [])
+unfolding notes
+drop_batch_refused = refl
+
+pub hand_behind_a_refusal : is_enabled_after refusing (batched ++ drop_batch ExporterDown ∷ pull ∷ []) hand ≡ Some true
+unfolding notes
+hand_behind_a_refusal = refl
 
 -- ---- order
 

@@ -13,6 +13,7 @@ use Rattle.otlp_types.specs.declared.arrival.Record.{Record}
 use Rattle.span_ids.specs.declared.ids.TraceId.{TraceId}
 use Rattle.span_ids.specs.declared.keys.ArrivalKey.{ArrivalKey}
 use Rattle.span_ids.specs.declared.outcome.Reason.{Reason}
+use Rattle.span_sink.specs.Manners.{takes_all}
 use Rattle.world_theory.specs.World.{CoreConfig, CoreLane, CoreShard, World, settings}
 use Rattle.world_theory.specs.Step.{Step, receive, route, step, run}
 use Rattle.world_theory.specs.Places.{waiting}
@@ -27,7 +28,7 @@ errors = one_more (leaf (StatusCode (pos 2 ∷ []))) no_more
 
 -- a wait of 10 milliseconds, batches of one span
 abbrev pub configured : Policies → (num_traces : Option ℕ) → (sampled non_sampled : ℕ) → CoreConfig
-configured policies num_traces sampled non_sampled = record { shard = record { policies = policies; decision_wait = 10; root_wait = 0; maximum_trace_size = 0; num_traces = num_traces; sampled_cache_size = sampled; non_sampled_cache_size = non_sampled; senders = 0 }; batch_size = 1 }
+configured policies num_traces sampled non_sampled = record { shard = record { policies = policies; decision_wait = 10; root_wait = 0; maximum_trace_size = 0; num_traces = num_traces; sampled_cache_size = sampled; non_sampled_cache_size = non_sampled; senders = 0 }; batch_size = 1; manner = takes_all }
 
 -- with this greatest size of a trace
 abbrev pub of_size : (maximum : ℕ) → CoreConfig → CoreConfig

@@ -92,7 +92,7 @@ pub data Stepped (c : CoreConfig) (w next : World) : Type 0 where
   pulled : (a : Arrival) (rest : List Arrival) → w.exported ≡ a ∷ rest → record w { exported = rest; batch = w.batch ++ a ∷ [] } ≡ next → Stepped c w next
   handed_over : is_empty w.batch ≡ false → w.down ≡ false → record w { handed = w.handed ++ w.batch ∷ []; batch = [] } ≡ next → Stepped c w next
   failed : w.down ≡ false → record w { down = true } ≡ next → Stepped c w next
-  batch_dropped : (reason : Reason) → is_empty w.batch ≡ false → drop_batch_applies w reason ≡ true → record w { counted = w.counted ++ counts reason w.batch; batch = [] } ≡ next → Stepped c w next
+  batch_dropped : (reason : Reason) → is_empty w.batch ≡ false → drop_batch_applies c w reason ≡ true → record w { counted = w.counted ++ counts reason w.batch; batch = [] } ≡ next → Stepped c w next
 
 pub or_both : (a b : Bool) → (a || b) ≡ false → (a ≡ false) × (b ≡ false)
 or_both true b e = absurd (cc e)
@@ -175,6 +175,6 @@ stepped c w next hand e =
     plain (handed_over b.0 b.1 m.1) refl
 stepped c w next fail e = let m = some_unless w.down _ next e in plain (failed m.0 m.1) refl
 stepped c w next (drop_batch reason) e =
-    let m = some_unless (is_empty w.batch || not (drop_batch_applies w reason)) _ next e in
-    let b = or_both (is_empty w.batch) (not (drop_batch_applies w reason)) m.0 in
-    plain (batch_dropped reason b.0 (not_not (drop_batch_applies w reason) b.1) m.1) refl
+    let m = some_unless (is_empty w.batch || not (drop_batch_applies c w reason)) _ next e in
+    let b = or_both (is_empty w.batch) (not (drop_batch_applies c w reason)) m.0 in
+    plain (batch_dropped reason b.0 (not_not (drop_batch_applies c w reason) b.1) m.1) refl

@@ -9,7 +9,7 @@ use Rattle.otlp_types.specs.declared.arrival.Item.TheVariants.{Span}
 use Rattle.span_ids.specs.declared.keys.ArrivalKey.{ArrivalKey}
 use Rattle.span_ids.specs.declared.outcome.Reason.{Reason}
 use Rattle.span_ids.specs.declared.outcome.Reason.TheVariants.{InvalidId, QueueFull, NoMemory, Evicted, LateNotSampled, ExporterDown, NotSampled as DecidedAgainst}
-use Rattle.world_theory.specs.World.{CoreConfig, CoreShard, World, settings, has_due, same_key}
+use Rattle.world_theory.specs.World.{may_give_up, CoreConfig, CoreShard, World, settings, has_due, same_key}
 use Rattle.world_theory.specs.Places.{Place, buffered, counted_under, places}
 use Rattle.world_theory.specs.Headline.{TakenSpan, fate_of, is_past_release, is_span_with}
 use Rattle.journal_theory.proofs.Notes.{HasRoom}
@@ -95,7 +95,7 @@ module _ (c : CoreConfig) (room : HasRoom c.shard.num_traces) (w : World) (h : W
       (o.shard, sym (own_fate sh.journal f.before f.refused f.ids (ap (λ (sh : CoreShard). sh.journal) o.of) o.past o.refusal (own_ids a f.ids o.arrival f.valid)) ∙ f.is)
 
   -- a count, by its cause
-  by_count : (place : Place) (n : DroppedSpan) → Split n w.counted → place ≡ counted_under n.reason → n.key ≡ k → Caused s w.lanes w.shards w.down n → TakenAt c w t place
+  by_count : (place : Place) (n : DroppedSpan) → Split n w.counted → place ≡ counted_under n.reason → n.key ≡ k → Caused s w.lanes w.shards (may_give_up c w.down) n → TakenAt c w t place
   by_count place n p e q x = go n.reason refl x.cause
     where
       counted : (r : Reason) → n.reason ≡ r → HasF s w.shards x.b (is_counted r) → TakenAt c w t place
@@ -107,7 +107,7 @@ module _ (c : CoreConfig) (room : HasRoom c.shard.num_traces) (w : World) (h : W
       on_lane : (r : Reason) → n.reason ≡ r → is_lane_reason r ≡ true → TakenAt c w t place
       on_lane r m l = absurd (omega (arith, was_routed, split_hit (by_lane k) w.counted n p (ap (λ (r : Reason). is_lane_reason r && same_key n.key k) m ∙ ap (λ (b : Bool). b && same_key n.key k) l ∙ ap (λ (j : ArrivalKey). same_key j k) q ∙ key_self k)))
 
-      go : (r : Reason) → n.reason ≡ r → Cause s w.shards w.down x.b r → TakenAt c w t place
+      go : (r : Reason) → n.reason ≡ r → Cause s w.shards (may_give_up c w.down) x.b r → TakenAt c w t place
       go InvalidId m f = on_lane InvalidId m refl
       go QueueFull m f = on_lane QueueFull m refl
       go NoMemory m (inl f) = counted NoMemory m f
@@ -120,7 +120,7 @@ module _ (c : CoreConfig) (room : HasRoom c.shard.num_traces) (w : World) (h : W
   pub taken_at : (place : Place) → Stands c w place k → TakenAt c w t place
   taken_at place (on_its_way e p) = absurd (omega (arith, was_routed))
   taken_at place (sent_by i sh a g q e l f) = let b = by_fate i sh a is_released g q f in sent_there (ap (λ (n : ℕ). is_past_release n place) (sym b.0) ∙ e) b.1
-  taken_at place (in_counts n p e q) = by_count place n p e q (Each-split (Caused s w.lanes w.shards w.down) n w.counted p h.sourced.caused)
+  taken_at place (in_counts n p e q) = by_count place n p e q (Each-split (Caused s w.lanes w.shards (may_give_up c w.down)) n w.counted p h.sourced.caused)
   taken_at place (waits_in i sh a g q e x) =
       let j = x.joined in
       let o = own i sh a false j.lost j.given j.later j.before g q j.split in

@@ -16,7 +16,7 @@ use Rattle.span_ids.specs.declared.outcome.Verdict.{Verdict}
 use Rattle.span_ids.specs.declared.outcome.Verdict.TheVariants.{Sampled, NotSampled}
 use Rattle.span_ids.specs.declared.outcome.Reason.{Reason}
 use Rattle.span_ids.specs.declared.outcome.Reason.TheVariants.{InvalidId, QueueFull, Evicted, NotSampled as DecidedAgainst, NoMemory, ExporterDown, LateNotSampled}
-use Rattle.world_theory.specs.World.{KeepsATrace, CoreConfig, CoreLane, CoreShard, World, settings, has_due, is_same_conn, same_key}
+use Rattle.world_theory.specs.World.{may_give_up, KeepsATrace, CoreConfig, CoreLane, CoreShard, World, settings, has_due, is_same_conn, same_key}
 use Rattle.world_theory.specs.Step.{Step, fail, step, run, is_of_conn, lane_is_done}
 use Rattle.world_theory.specs.Places.{Place, buffered, unshipped, exported, in_batch, handed, counted_under, places, IsClosed}
 
@@ -82,7 +82,7 @@ abbrev pub is_under : Reason → Place → Bool
 is_under reason (counted_under r) = is_same_reason r reason
 is_under reason _ = false
 
--- where a span may be that this shard released: a batch that was given up is counted for want of memory or for the sink
+-- where a span may be that this shard released: a batch that was given up is counted for want of memory or for its destination
 abbrev pub is_past_release : (shard : ℕ) → Place → Bool
 is_past_release shard (unshipped n) = n == shard
 is_past_release shard exported = true
@@ -115,7 +115,8 @@ is_span_with k (End sender) = false
 abbrev pub was_taken : World → ArrivalKey → Bool
 was_taken w k = list_any (λ (sh : CoreShard). list_any (λ (e : Entry). is_span_with k e.item) sh.journal) w.shards
 
--- the cause of a count; that a queue was full, or that memory was refused, is an input of its step
+-- the cause of a count; that a queue was full, that memory was refused, or that a destination which may refuse a batch
+-- refused this one, is an input of its step
 abbrev pub HasCause : CoreConfig → World → Arrival → Reason → Type 0
 HasCause c w a InvalidId = a.rec.span.ids ≡ None
 HasCause c w a QueueFull = IsSome a.rec.span.ids × IsFalse (was_taken w a.key)
@@ -123,7 +124,7 @@ HasCause c w a NoMemory = HasFate c w a (is_counted NoMemory) ⊎ HasFate c w a 
 HasCause c w a Evicted = HasFate c w a (is_counted Evicted)
 HasCause c w a DecidedAgainst = HasFate c w a (is_counted DecidedAgainst)
 HasCause c w a LateNotSampled = HasFate c w a (is_counted LateNotSampled)
-HasCause c w a ExporterDown = IsTrue w.down × HasFate c w a is_released
+HasCause c w a ExporterDown = IsTrue (may_give_up c w.down) × HasFate c w a is_released
 
 -- a received span that is counted under a reason has its cause
 abbrev pub CountedWithCause : CoreConfig → World → Type 0

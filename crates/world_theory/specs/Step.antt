@@ -12,7 +12,7 @@ use Rattle.otlp_types.specs.declared.arrival.Item.TheVariants.{Span, Tick, End}
 use Rattle.span_ids.specs.declared.keys.ConnKey.{ConnKey}
 use Rattle.span_ids.specs.declared.outcome.Reason.{Reason}
 use Rattle.span_ids.specs.declared.outcome.Reason.TheVariants.{InvalidId, QueueFull, NoMemory, ExporterDown}
-use Rattle.world_theory.specs.World.{CoreConfig, CoreLane, CoreShard, World, new_world, settings, ticker, has_due, is_same_conn, goes_to}
+use Rattle.world_theory.specs.World.{may_give_up, CoreConfig, CoreLane, CoreShard, World, new_world, settings, ticker, has_due, is_same_conn, goes_to}
 
 -- a step of the core: moments are milliseconds, lanes, shards and senders are named by their numbers from 0
 pub data Step : Type 0 where
@@ -162,11 +162,11 @@ abbrev pub pull_from : CoreConfig → World → List Arrival → Option World
 pull_from c w [] = None
 pull_from c w (a ∷ rest) = if nat_lt (length w.batch) c.batch_size then Some (record w { exported = rest; batch = w.batch ++ a ∷ [] }) else None
 
--- a batch may be given up for want of memory, or because the sink is down
-abbrev pub drop_batch_applies : World → Reason → Bool
-drop_batch_applies w NoMemory = true
-drop_batch_applies w ExporterDown = w.down
-drop_batch_applies w _ = false
+-- a batch may be given up for want of memory, or because its destination refused it or is down
+abbrev pub drop_batch_applies : CoreConfig → World → Reason → Bool
+drop_batch_applies c w NoMemory = true
+drop_batch_applies c w ExporterDown = may_give_up c w.down
+drop_batch_applies c w _ = false
 
 -- there is no span
 abbrev pub is_empty : List Arrival → Bool
@@ -189,7 +189,7 @@ step c w (ship shard) = option_and_then (λ sh. ship_on w shard sh sh.unshipped)
 step c w pull = pull_from c w w.exported
 step c w hand = if is_empty w.batch || w.down then None else Some (record w { handed = w.handed ++ w.batch ∷ []; batch = [] })
 step c w fail = if w.down then None else Some (record w { down = true })
-step c w (drop_batch reason) = if is_empty w.batch || not (drop_batch_applies w reason) then None else Some (record w { counted = w.counted ++ counts reason w.batch; batch = [] })
+step c w (drop_batch reason) = if is_empty w.batch || not (drop_batch_applies c w reason) then None else Some (record w { counted = w.counted ++ counts reason w.batch; batch = [] })
 
 -- the world after these steps, each enabled in its turn
 abbrev pub run_from : CoreConfig → World → List Step → Option World

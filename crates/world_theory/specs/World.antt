@@ -1,6 +1,6 @@
 -- The core's world: lanes, shards and the exporter as plain lists.
 -- The queues have no limit here: that a queue was full is an input of the step `refuse`.
-use Rattle.std.specs.Prelude.{◌≢◌, ℕ, ◌+◌, Bool, false, ◌&&◌, ◌==◌, nat_lt, List, [], length, replicate, Option, Some, None}
+use Rattle.std.specs.Prelude.{◌≢◌, ℕ, ◌+◌, Bool, false, ◌&&◌, ◌||◌, ◌==◌, nat_lt, List, [], length, replicate, Option, Some, None}
 use Rattle.policy_tree.specs.Tree.{Policies}
 use Rattle.journal_theory.specs.Journal.{Settings, Journal, due_now}
 use Rattle.journal_theory.specs.Fate.{DroppedSpan}
@@ -9,14 +9,20 @@ use Rattle.otlp_types.specs.declared.arrival.Arrival.{Arrival}
 use Rattle.span_ids.specs.Route.{shard_of}
 use Rattle.span_ids.specs.declared.keys.ConnKey.{ConnKey}
 use Rattle.span_ids.specs.declared.keys.ArrivalKey.{ArrivalKey}
+use Rattle.span_sink.specs.Manners.{Manner, refuses}
 
 -- ---- the world
 
--- the settings of each shard, whose senders are those of the world, and the greatest number of spans in a batch; a cache
--- of size 0 is off
+-- the settings of each shard, whose senders are those of the world, the greatest number of spans in a batch, and what
+-- their destination may do; a cache of size 0 is off
 pub record CoreConfig : Type 0 where
   pub shard : Settings
   pub batch_size : ℕ
+  pub manner : Manner
+
+-- a batch may be given up for its destination: it may refuse one, or it is down
+abbrev pub may_give_up : CoreConfig → (down : Bool) → Bool
+may_give_up c down = refuses c.manner || down
 
 -- a limit is at least 1: with a limit of 0 a span that opens an episode would stand nowhere
 abbrev pub KeepsATrace : CoreConfig → Type 0

@@ -43,7 +43,7 @@ fn exporter_of(
     size: usize,
     piece: usize,
     room: usize,
-) -> Result<Exporter<FailingSink>, AllocError>
+) -> Result<Exporter<LineSink<FailingSink>>, AllocError>
     requires { 0 < size }
 {
     let sink = WriteSink::new(TestWriter {
@@ -61,7 +61,7 @@ fn exporter_of(
 }
 
 /// Pulls a span, and flushes a batch that it fills.
-fn pulled(exporter: &mut Exporter<FailingSink>, rec: Record) -> Flushed {
+fn pulled(exporter: &mut Exporter<LineSink<FailingSink>>, rec: Record) -> Flushed {
     if exporter.is_full() {
         return Flushed::BatchDropped(0, Reason::Evicted);
     }
@@ -87,7 +87,7 @@ type Seen = ([Flushed; 4], Result<(), SinkFault>, bool, u64, bool);
 /// Sends spans, then a line that is no batch unless it is empty, then what is left, to an exporter whose sink must take
 /// just `held`.
 fn sent(
-    mut exporter: Exporter<FailingSink>,
+    mut exporter: Exporter<LineSink<FailingSink>>,
     records: Vec<Record>,
     line: &[u8],
     held: &[u8],
@@ -103,7 +103,8 @@ fn sent(
     };
     let is_down = exporter.is_down();
     let last = exporter.flush();
-    let sink = exporter.end();
+    let lines = exporter.end();
+    let sink = lines.end();
     let failures = sink.failures();
     let is_held = sink.end().taken.as_slice() == held;
     let flushes = [flushes[0], flushes[1], flushes[2], last];

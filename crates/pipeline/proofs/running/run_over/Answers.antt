@@ -25,8 +25,8 @@ pub returns-in-Ok-run_team-clause-sink : goal.returns-in-Ok-run_team-clause-sink
 returns-in-Ok-run_team-clause-sink g c =
     let did = c.in-Ok-run_team.ensures.main in
     let handed = c.sink_takes_lines.ensures _ _ _ did.works.leads in
-    let took = c.takes_handed_lines.ensures _ _ _ handed.2 in
-    went _ _ _ c.requires.new_exporter.3 took
+    let took = c.takes_handed_lines.ensures _ _ _ _ handed.2 in
+    went _ _ _ _ c.requires.new_exporter.3 took
 
 pub run_team-requires-send-First : goal.run_team-requires-send-First
 run_team-requires-send-First g c κs within =

@@ -1,5 +1,0 @@
-use Rattle.batch_post.proofs.Deliveries.{new_log}
-use Rattle.batch_post.proofs.sink.BatchSink.new.Goals as goal
-
-pub invariant_of-result : goal.invariant_of-result
-invariant_of-result g c = new_log (g.C.Spans.are c.args.spans) (g.B.Backend.log c.args.backend) c.requires
