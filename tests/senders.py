@@ -39,6 +39,8 @@ HEADS = [
     ("protobuf", {"Content-Type": "application/x-protobuf"}, 415, '{"message":"unsupported media type: application/json is wanted"}'),
     ("no type", {"Content-Type": None}, 415, '{"message":"unsupported media type: application/json is wanted"}'),
     ("no host", {"Host": None}, 400, '{"message":"bad request"}'),  # RFC 9112, 3.2
+    ("a user in the host", {"Host": "user@collector"}, 400, '{"message":"bad request"}'),  # RFC 9112, 3.2: an invalid value
+    ("a path in the host", {"Host": "collector/v1"}, 400, '{"message":"bad request"}'),
 ]
 
 # (name, the request line, the status, the answer's body, or None where an answer has none)

@@ -15,6 +15,7 @@ use Rattle.http_text.specs.Body.{BySize, waits, refuses}
 use Rattle.http_text.specs.Lines.{head_len, trailer_len, line_len, blank_len}
 use Rattle.http_text.specs.Fields.{Header, coding_of, elements, framing, is_plain, is_packed, is_taken, is_own_host, is_own_origin, is_own_site}
 use Rattle.http_text.specs.Head.{fits, posted, routed, verdict_by, field_lines}
+use Rattle.http_text.specs.Host.{is_host}
 use Rattle.httparse.specs.Grammar.{trim_ows}
 use Rattle.httparse.specs.Ascii.{crlf_bytes}
 
@@ -159,6 +160,21 @@ foreign_hosts : map is_own_host
     (codes "evil.example" ∷ codes "evil.example:4319" ∷ codes "127.0.0.1.evil.example" ∷ codes "localhost.evil.example:4318" ∷ codes "evil." ∷ codes "1.2.3.x" ∷ [])
     ≡ false ∷ false ∷ false ∷ false ∷ false ∷ false ∷ []
 foreign_hosts = refl
+
+-- what may be a `Host`: a name, an address, no host at all, and any port or none
+hosts : map is_host
+    (codes "x" ∷ codes "Collector.example:4318" ∷ codes "10.1.2.3" ∷ codes "a_b-c~" ∷ codes "a%2Fb%c3" ∷ codes "[::1]" ∷ codes "[fe80::1.2.3.4]:4318" ∷ [] ∷ codes ":80" ∷ codes "x:" ∷ codes "a,b" ∷ [])
+    ≡ true ∷ true ∷ true ∷ true ∷ true ∷ true ∷ true ∷ true ∷ true ∷ true ∷ true ∷ []
+hosts = refl
+
+no_hosts : map is_host
+    (codes "a b" ∷ codes "a/b" ∷ codes "user@x" ∷ codes "x:4a" ∷ codes "x:1:2" ∷ codes "a%2" ∷ codes "a%2g" ∷ codes "[::1" ∷ codes "[]" ∷ codes "[::1]4318" ∷ codes "[a/b]" ∷ codes "::1" ∷ (195 ∷ 188 ∷ []) ∷ codes "x?" ∷ codes "\"x\"" ∷ [])
+    ≡ false ∷ false ∷ false ∷ false ∷ false ∷ false ∷ false ∷ false ∷ false ∷ false ∷ false ∷ false ∷ false ∷ false ∷ false ∷ []
+no_hosts = refl
+
+-- a request whose `Host` can't be one is refused whatever it asks for
+bad_host : verdict_by by_default (codes "POST") (codes "/close") 1 ((codes "Host", codes "x/y") ∷ []) ≡ Refused BadRequest false
+bad_host = refl
 
 -- an `Origin` is the host's where it is `http://` and just the host, in any letters
 origins : map (is_own_origin (codes "box:4319"))

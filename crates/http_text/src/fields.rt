@@ -246,7 +246,7 @@ pub fn is_taken(allowed: Allowed, text: &[u8], spans: &[HeaderSpan]) -> bool
 }
 
 /// The place of the first `:`.
-fn colon_at(host: &[u8]) -> Option<usize>
+pub(crate) fn colon_at(host: &[u8]) -> Option<usize>
     ensures value { result ≡ position (λ b. b == 58) host.now }
     ensures within { IfSome result (λ at. at < length host.now) }
 {
@@ -264,7 +264,7 @@ fn host_name(host: &[u8]) -> &[u8]
 }
 
 /// An address literal of version 6, in brackets.
-fn is_bracketed(host: &[u8]) -> bool
+pub(crate) fn is_bracketed(host: &[u8]) -> bool
     ensures { result ≡ is_bracketed host.now }
 {
     matches!(host, [b'[', ..])
