@@ -50,7 +50,8 @@ LINES = [
     ("a probe by OPTIONS", "OPTIONS /v1/traces HTTP/1.1", 405, '{"message":"method not allowed"}'),
     ("a probe of the root", "GET / HTTP/1.1", 404, '{"message":"not found"}'),
     ("OPTIONS of the server", "OPTIONS * HTTP/1.1", 404, '{"message":"not found"}'),
-    ("a proxy's whole address", "POST http://collector:4318/v1/traces HTTP/1.1", 404, '{"message":"not found"}'),
+    ("a proxy's whole address", "POST http://collector:4318/v1/traces HTTP/1.1", 200, "{}"),  # RFC 9112, 3.2.2
+    ("a proxy's whole address of metrics", "POST http://collector:4318/v1/metrics HTTP/1.1", 404, '{"message":"not found"}'),
     ("a query", "POST /v1/traces?tenant=1 HTTP/1.1", 404, '{"message":"not found"}'),
     ("a slash behind the path", "POST /v1/traces/ HTTP/1.1", 404, '{"message":"not found"}'),
     ("metrics", "POST /v1/metrics HTTP/1.1", 404, '{"message":"not found"}'),

@@ -16,6 +16,7 @@ use Rattle.http_text.specs.Lines.{head_len, trailer_len, line_len, blank_len}
 use Rattle.http_text.specs.Fields.{Header, coding_of, elements, framing, is_plain, is_packed, is_taken, is_own_host, is_own_origin, is_own_site}
 use Rattle.http_text.specs.Head.{fits, posted, routed, verdict_by, field_lines}
 use Rattle.http_text.specs.Host.{is_host}
+use Rattle.http_text.specs.Target.{is_traces}
 use Rattle.httparse.specs.Grammar.{trim_ows}
 use Rattle.httparse.specs.Ascii.{crlf_bytes}
 
@@ -175,6 +176,23 @@ no_hosts = refl
 -- a request whose `Host` can't be one is refused whatever it asks for
 bad_host : verdict_by by_default (codes "POST") (codes "/close") 1 ((codes "Host", codes "x/y") ∷ []) ≡ Refused BadRequest false
 bad_host = refl
+
+-- the target of traces, alone or behind a host; no other scheme, path, query, user or empty host
+traces : map is_traces
+    (codes "/v1/traces" ∷ codes "http://x/v1/traces" ∷ codes "HTTP://collector.example:4318/v1/traces" ∷ codes "http://[::1]:4318/v1/traces" ∷ [])
+    ≡ true ∷ true ∷ true ∷ true ∷ []
+traces = refl
+
+no_traces : map is_traces
+    (codes "http:///v1/traces" ∷ codes "http://:80/v1/traces" ∷ codes "https://x/v1/traces" ∷ codes "http://u@x/v1/traces" ∷ codes "http://x/v1/traces?a" ∷ codes "http://x//v1/traces" ∷ codes "http://x?/v1/traces" ∷ codes "http://x" ∷ codes "http:/v1/traces" ∷ codes "x/v1/traces" ∷ codes "http://x/V1/traces" ∷ [])
+    ≡ false ∷ false ∷ false ∷ false ∷ false ∷ false ∷ false ∷ false ∷ false ∷ false ∷ false ∷ []
+no_traces = refl
+
+absolute : verdict_of (codes "HEAD") (codes "http://x/v1/traces") ∷ verdict_of (codes "GET") (codes "http://x/v1/logs")
+    ∷ verdict_of (codes "POST") (codes "http://x/close") ∷ []
+    ≡ Refused MethodNotAllowed true ∷ Refused NotFound false ∷ Refused NotFound false ∷ []
+unfolding verdict_of host_field
+absolute = refl
 
 -- an `Origin` is the host's where it is `http://` and just the host, in any letters
 origins : map (is_own_origin (codes "box:4319"))

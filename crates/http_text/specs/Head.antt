@@ -14,6 +14,7 @@ use Rattle.http_text.specs.declared.request.RequestRefusal.TheVariants.{HeadTooL
 use Rattle.http_text.specs.declared.request.HeadVerdict.{HeadVerdict}
 use Rattle.http_text.specs.declared.request.HeadVerdict.TheVariants.{Refused, Close, Post as Posted}
 use Rattle.http_text.specs.Host.{has_host}
+use Rattle.http_text.specs.Target.{is_traces}
 use Rattle.http_text.specs.Fields.{Header, framing, encoding_of, is_packed, is_taken, says_close, expects_continue, is_foreign}
 use Rattle.http_text.specs.Lines.{head_len, blank_len, cut}
 
@@ -67,7 +68,7 @@ closing method headers = if is_foreign headers then refused method Forbidden els
 abbrev pub routed : Allowed → List ℕ → List ℕ → List Header → Framing → HeadVerdict
 routed allowed method target headers framed =
     if is_close allowed target && is_post method then closing method headers
-    else (if not (is_close allowed target || bytes_eq target (codes "/v1/traces")) then refused method NotFound
+    else (if not (is_close allowed target || is_traces target) then refused method NotFound
     else (if not (is_post method) then refused method MethodNotAllowed
     else posted allowed method headers framed))
 

@@ -254,7 +254,7 @@ pub(crate) fn colon_at(host: &[u8]) -> Option<usize>
 }
 
 /// The name or the address of a `Host`, before any port.
-fn host_name(host: &[u8]) -> &[u8]
+pub(crate) fn host_name(host: &[u8]) -> &[u8]
     ensures { result.now ≡ host_name host.now }
 {
     match colon_at(host) {

@@ -14,6 +14,7 @@ use crate::fields::{
 use crate::host::has_host;
 use crate::lines::blank_len;
 use crate::request::{FIELD_LIMIT, Framing, HeadVerdict, Post, RequestRefusal};
+use crate::target::is_traces;
 use httparse::Status;
 use httparse::spans::{EMPTY_HEADER_SPAN, HeaderSpan, RequestSpans, parse_request};
 use otlp_encoding::Encoding;
@@ -120,7 +121,7 @@ fn routed(
     if is_close && is_post {
         return closing(method, text, headers);
     }
-    if !(is_close || target == b"/v1/traces".as_slice()) {
+    if !(is_close || is_traces(target)) {
         return refused(method, RequestRefusal::NotFound);
     }
     if !is_post {

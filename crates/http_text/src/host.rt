@@ -118,7 +118,7 @@ fn is_literal_to(host: &[u8], end: usize) -> bool
 }
 
 /// Whether it may be a `Host`.
-fn is_host(host: &[u8]) -> bool
+pub(crate) fn is_host(host: &[u8]) -> bool
     ensures { result ≡ is_host host.now }
 {
     if !is_bracketed(host) {

@@ -25,6 +25,7 @@ mod host;
 mod lines;
 mod request;
 mod search;
+mod target;
 
 pub use allowed::Allowed;
 pub use body::{is_trailer, read_size};
