@@ -22,7 +22,8 @@ use Rattle.script_run.specs.Limiting.{answers_to, asked_more, answers_in_turn, a
 use Rattle.script_run.specs.World.{ShardTurn}
 use Rattle.script_session.specs.Pulling.{Export, Counts, PullsAll, DecidesAll}
 use Rattle.script_session.proofs.Adds.{none-dropped, plus-none, plus-two}
-use Rattle.script_session.proofs.Pulls.{PullsAll-none, PullsAll-append}
+use Rattle.script_session.proofs.Pulls.{PullsAll-append}
+use Rattle.script_session.specs.Staying.{PullsAll-none}
 
 -- the journal with the entry, where the first decisions at it were given these answers
 abbrev pub given_to : Entry → ShardTurn → (answers : List (List Bool)) → Journal

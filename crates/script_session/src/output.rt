@@ -7,7 +7,9 @@ ghost use Rattle.script_session.specs.Pulling.{PullsAll, GoesOn};
 
 use drop_ledger::{Count, Report};
 use otlp_types::{Arrival, Shipment};
+use shard_core::Desk;
 use span_exporter::{Exporter, Flushed, Pulled};
+use span_ids::Reason;
 use span_sink::{LineSink, Sink};
 use std::marker::Model;
 
@@ -112,6 +114,27 @@ impl<S: Sink> Output<S> {
             self.pull(arrival);
         }
     }
+}
+
+impl<S: Sink> Desk<()> for Output<S> {
+    ghost use Rattle.script_session.specs.Pulling.{PullsAll, GoesOn};
+    ghost use Rattle.script_session.specs.Staying.{pulls-none, goes-on};
+
+    ghost takes = { λ old spans dropped new. PullsAll old spans dropped new × GoesOn old new };
+
+    fn ship(&mut self, _lent: &(), span: Arrival) {
+        self.pull(span);
+    }
+
+    fn ship_all(&mut self, _lent: &(), spans: Vec<Arrival>) {
+        self.pull_all(spans);
+    }
+
+    fn count_dropped(&mut self, why: Reason, spans: u64) {
+        self.count(Count::Dropped(why), spans);
+    }
+
+    ghost stays = { λ s dropped none. (pulls-none s dropped none, goes-on s) };
 }
 
 /// Counts spans, until a count would pass 2^64-1: from then on nothing is counted.

@@ -16,12 +16,14 @@
 #![tactic(auto)]
 
 mod answer;
+mod desk;
 mod ends;
 mod keeping;
 mod setup;
 mod shard;
 
 pub use answer::{Decided, Taken};
+pub use desk::{Desk, settle_decided, settle_taken};
 pub use journal_theory::laws;
 pub use setup::{ShardSetup, Waits};
 pub use shard::Shard;
