@@ -13,7 +13,6 @@
 #![tactic(auto)]
 
 mod answer;
-mod counting;
 mod engine;
 mod input;
 mod laws;

@@ -10,7 +10,6 @@ ghost use Rattle.http_lane.specs.Connection.{end_with, ConnectionStanding, in_he
 ghost use Rattle.http_lane.specs.declared.answer.ServeEnd.TheVariants.{Closed, Cut};
 
 use crate::answer::{Brought, EventFate, QUIET_LIMIT, READ_LIMIT, ReadTurn, SLOW_LIMIT, ServeEnd};
-use crate::counting::count;
 use crate::engine::Engine;
 use crate::lent::{Clock, HasStopMark, Lent};
 use crate::reads::{PIECE_LIMIT, Source};
@@ -20,7 +19,7 @@ use http_answer::{Response, text_of};
 use http_text::RequestRefusal;
 use inflate::{GzipFault, gunzip};
 use lane_queue::Port;
-use lane_seq::{Conn, Lane, Reply};
+use lane_seq::{Conn, Lane, Reply, count_reply};
 use otlp_encoding::Encoding;
 use otlp_types::Item;
 use std::alloc::Global;
@@ -91,7 +90,7 @@ fn submit<
     ensures { (limit : ℕ) (is_packed : Bool) (body : List ℕ) → IsTextOf limit is_packed body text.now → Responds (Submits ShardPort.takes ShardPort.refuses) (Writer.contents writer.old) (Writer.contents writer.new) (intake lane.old conn.old (Ledger.counted counts.old)) (intake lane.new conn.new (Ledger.counted counts.new)) encoding limit is_packed (Some body) says_close result }
 {
     let reply = lane.submit(lent.alloc, conn, encoding, text, lent.clock.now());
-    if !count(counts, &reply) {
+    if !count_reply(counts, &reply) {
         return (says_close, EventFate::Uncounted);
     }
     let replied = Response::Replied {

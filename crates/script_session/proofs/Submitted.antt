@@ -18,7 +18,8 @@ use Rattle.lane_seq.specs.declared.reply.Reply.{Reply}
 use Rattle.lane_seq.specs.declared.reply.Reply.TheVariants.{Done, Partial, BadData as BadRequest, Busy}
 use Rattle.lane_seq.specs.Replies.{IsRefusal, OnReceived}
 use Rattle.script_run.specs.Requests.{IsTakenFor, refuses, arrivals_of}
-use Rattle.script_session.specs.Submitting.{Submits, is_received}
+use Rattle.lane_seq.specs.Replies.{is_received}
+use Rattle.script_session.specs.Submitting.{Submits}
 
 -- what holds where the spans were received
 pub received : (reply : Reply) (F : Type 0) → is_received reply ≡ true → OnReceived reply F → F

@@ -4,8 +4,10 @@ ghost use Rattle.span_exporter.specs.Exports.{ExporterState, Sends, WritesLine};
 ghost use Rattle.script_run.specs.Counts.{counted_for};
 ghost use Rattle.script_session.specs.Adding.{Adds, at_count};
 ghost use Rattle.script_session.specs.Pulling.{PullsAll, GoesOn};
+ghost use Rattle.script_session.specs.Submitting.{received_by};
 
 use drop_ledger::{Count, Report};
+use lane_seq::{Reply, count_reply};
 use otlp_types::{Arrival, Shipment};
 use shard_core::Desk;
 use span_exporter::{Exporter, Flushed, Pulled};
@@ -72,6 +74,14 @@ impl<S: Sink> Output<S> {
         ensures same { self.new.0 ≡ self.old.0 }
     {
         count(&mut self.report, what, spans);
+    }
+
+    /// Counts the spans of a request, and those of them that go to no shard.
+    pub fn count_reply(&mut self, reply: &Reply)
+        ensures counted { Adds self.old.1 (received_by reply.now) self.new.1 }
+        ensures same { self.new.0 ≡ self.old.0 }
+    {
+        count_replied(&mut self.report, reply);
     }
 
     /// Hands a line to the sink that is no batch.
@@ -143,6 +153,17 @@ fn count(report: &mut Option<Report>, what: Count, spans: u64)
 {
     if let Some(numbers) = report {
         if numbers.add(what, spans).is_err() {
+            *report = None;
+        }
+    }
+}
+
+/// Counts what a reply tells, until a count would pass 2^64-1: from then on nothing is counted.
+fn count_replied(report: &mut Option<Report>, reply: &Reply)
+    ensures { Adds report.old (received_by reply.now) report.new }
+{
+    if let Some(numbers) = report {
+        if !count_reply(numbers, reply) {
             *report = None;
         }
     }

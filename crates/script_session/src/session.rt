@@ -13,7 +13,7 @@ use crate::connections::Connections;
 use crate::ending::end_all;
 use crate::fault::ReplayFault;
 use crate::output::Output;
-use crate::receiving::{count_received, is_received, submit};
+use crate::receiving::{is_received, submit};
 use crate::replying::{MAX_REPLY_LINE, write_reply_line};
 use crate::signal::Signal;
 use crate::taking::{take_received, tell_each};
@@ -102,7 +102,7 @@ impl<S: Sink> Session<S> {
             body,
         );
         self.queues = queues;
-        count_received(&mut self.output, &reply);
+        self.output.count_reply(&reply);
         hand_reply(&mut self.text, &mut self.output, &reply);
         take_received(
             is_received(&reply),
