@@ -16,7 +16,7 @@ use Rattle.http_lane.specs.declared.answer.ReadTurn.TheVariants.{Gave, Quiet as 
 use Rattle.http_lane.specs.declared.answer.EventFate.{EventFate}
 use Rattle.http_lane.specs.declared.answer.EventFate.TheVariants.{Uncounted}
 use Rattle.http_lane.specs.declared.answer.ServeEnd.{ServeEnd}
-use Rattle.http_lane.specs.Connection.{RequestReading, encoding_in, Cause, accepts, refusal, close_asked, starved, stopping, submitted, Brings, Rests, IsTextOf, IsUnfit, ConnectionEvent, Settles, Writes, WritesBy, text_of, SubmitsAll, Submission, submissions, submission_by, can_be, closes as closes_of, end_with, ConnectionTurn, gave, quiet, interrupted, failed, ended, bytes_given, is_ended, ReadRound, ConnectionStanding, standing, IsRoundBy, IsTranscript, turns_of, events_of}
+use Rattle.http_lane.specs.Connection.{RequestReading, encoding_in, Cause, accepts, refusal, close_asked, starved, stopping, submitted, Brings, Rests, IsTextOf, IsUnfit, ConnectionEvent, Settles, Writes, WritesBy, text_of, SubmitsAll, Submission, submissions, submission_by, can_be, closes as closes_of, end_with, ConnectionTurn, gave, quiet, interrupted, failed, ended, bytes_given, is_ended, ReadRound, ConnectionStanding, standing, IsRoundBy, IsLapse, IsTranscript, turns_of, events_of}
 use Rattle.http_lane.specs.Turns.{answers, has_answer}
 
 -- what may be done with a whole body, as it came
@@ -143,6 +143,12 @@ Served submits old_text new_text old new old_reader new_reader end =
 abbrev pub Waits : Option (List ℕ) → Option (List ℕ) → ConnectionStanding → ℕ → Option ServeEnd → Type 0
 Waits old_text new_text s row end =
     (is_stopped : Bool) × (events : List ConnectionEvent) × IsRoundBy quiet s is_stopped events (standing s.reading row end)
+    × (bytes : List ℕ) × Appends old_text new_text bytes × Writes events bytes × (submissions events ≡ [])
+
+-- a request under way was looked at, of which nothing came
+abbrev pub Lapses : Option (List ℕ) → Option (List ℕ) → RequestReading → (due now : ℕ) → Option ServeEnd → Type 0
+Lapses old_text new_text r due now end =
+    (events : List ConnectionEvent) × IsLapse r due now events end
     × (bytes : List ℕ) × Appends old_text new_text bytes × Writes events bytes × (submissions events ≡ [])
 
 -- it awaits more of some reading

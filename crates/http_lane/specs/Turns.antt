@@ -1,12 +1,13 @@
 -- One connection among many, by a clock: what the turns of a lane brought it, each with its moment in milliseconds, and
 -- what was done then. What bytes bring is as in Connection.
-use Rattle.std.specs.Prelude.{◌≡◌, ℕ, ◌+◌, ◌<◌, ◌≤◌, ◌⊎◌, ◌||◌, Bool, true, false, List, [], ◌∷◌, length, Option, Some, None, MatchBool, if◌then◌else◌, nat_le}
+use Rattle.std.specs.Prelude.{◌≡◌, ℕ, ◌+◌, ◌<◌, ◌⊎◌, ◌||◌, Bool, true, false, List, [], ◌∷◌, length, Option, Some, None, MatchBool, if◌then◌else◌, nat_le}
 use Rattle.std.specs.List.{list_any}
 use Rattle.http_text.specs.declared.allowed.Allowed.{Allowed}
 use Rattle.http_lane.specs.declared.answer.ServeEnd.{ServeEnd}
 use Rattle.http_lane.specs.declared.answer.ServeEnd.TheVariants.{Closed, Cut, Quiet, Stopped, ReadFault, WriteFault, NoMemory}
-use Rattle.http_lane.specs.declared.turns.TheConstants.{IDLE_LIMIT, REQUEST_LIMIT}
-use Rattle.http_lane.specs.Connection.{RequestReading, in_head, in_body, grown, is_between, Cause, accepts, timed_out, ConnectionEvent, end_of, IsTold, Settles}
+use Rattle.http_lane.specs.declared.answer.TheConstants.{REQUEST_LIMIT}
+use Rattle.http_lane.specs.declared.turns.TheConstants.{IDLE_LIMIT}
+use Rattle.http_lane.specs.Connection.{RequestReading, in_head, in_body, grown, is_between, Cause, accepts, ConnectionEvent, IsLapse, Settles}
 
 -- what a turn brought: some bytes, or some for which there was no memory; nothing, so that only the time was looked at;
 -- the input's end; a fault of a read; that a write had failed or stood still for too long; or that the connection had
@@ -56,11 +57,9 @@ since_after w moment events last = if is_between last || (is_between w.reading |
 abbrev pub idle_end : (since moment : ℕ) → Bool → Option ServeEnd
 idle_end since moment is_stopped = if is_stopped then Some Stopped else (if nat_le (since + IDLE_LIMIT) moment then Some Quiet else None)
 
--- nothing came within a request: it is answered once its time is over
+-- nothing came within a request: it is due once its time is over
 abbrev pub IsLate : RequestReading → (since moment : ℕ) → List ConnectionEvent → Option ServeEnd → Type 0
-IsLate r since moment events end =
-    ((since + REQUEST_LIMIT ≤ moment) × (e : ConnectionEvent) × (events ≡ e ∷ []) × (e.cause ≡ timed_out) × IsTold r e × (end ≡ end_of e))
-    ⊎ ((moment < since + REQUEST_LIMIT) × (events ≡ []) × (end ≡ None))
+IsLate r since moment events end = IsLapse r (since + REQUEST_LIMIT) moment events end
 
 abbrev pub IsTurnBy : Coming → Waiting → (moment : ℕ) → Bool → List ConnectionEvent → Waiting → Type 0
 IsTurnBy (came bytes) w moment is_stopped events next =

@@ -24,7 +24,7 @@ mod serving;
 mod stage;
 mod turns;
 
-pub use answer::{QUIET_LIMIT, READ_LIMIT, ReadTurn, SLOW_LIMIT, ServeEnd};
+pub use answer::{QUIET_LIMIT, READ_LIMIT, REQUEST_LIMIT, ReadTurn, SLOW_LIMIT, ServeEnd};
 pub use laws::{
     doors_do_not_matter, in_any_pieces, pieces_do_not_matter, replies_are_determined,
     turns_do_not_matter, turns_in_any_pieces, whole_connections,
@@ -33,4 +33,4 @@ pub use lent::{Clock, HasStopMark, Lent};
 pub use reads::{PIECE_LIMIT, Reads, Source};
 pub use requests::Requests;
 pub use serving::serve;
-pub use turns::{Arrived, Exchange, IDLE_LIMIT, REQUEST_LIMIT};
+pub use turns::{Arrived, Exchange, IDLE_LIMIT};

@@ -1,12 +1,12 @@
 //! The loop of a connection.
-ghost use Rattle.std.specs.Prelude.{◌≡◌, ◌+◌, [], ℕ, ◌<◌, ◌≤◌, List, ◌++◌, IsTrue, take, IfOk, Option, Some, Bool, false, true, ◌^◌, ◌-◌, if◌then◌else◌};
+ghost use Rattle.std.specs.Prelude.{◌≡◌, ◌+◌, [], ℕ, ◌<◌, ◌≤◌, List, ◌++◌, IsTrue, take, IfOk, Option, Some, Bool, false, true, ◌^◌, ◌-◌, nat_le, if◌then◌else◌};
 ghost use Rattle.http_lane.specs.Intake.{Submits, intake, first_conn, connected};
 ghost use Rattle.lane_seq.specs.declared.preparing.Conn.{Conn};
 ghost use Rattle.std.specs.Io.KnownBytes.{Appends};
 ghost use Rattle.http_answer.specs.Answer.{text_of_answer};
 ghost use Rattle.http_lane.specs.Connection.{RequestReading, IsTextOf};
-ghost use Rattle.http_lane.specs.Engine.{Puts, Settled, SettledTo, Responds, Acts, IsOpenAfter, IsFateOfText, Waits, Served, Sees, answer_to};
-ghost use Rattle.http_lane.specs.Connection.{end_with, ConnectionStanding, in_head, is_between};
+ghost use Rattle.http_lane.specs.Engine.{Puts, Settled, SettledTo, Responds, Acts, IsOpenAfter, IsFateOfText, Lapses, Waits, Served, Sees, answer_to};
+ghost use Rattle.http_lane.specs.Connection.{end_with, ConnectionStanding, in_head, is_between, encoding_in};
 ghost use Rattle.http_lane.specs.declared.answer.ServeEnd.TheVariants.{Closed, Cut};
 
 use crate::answer::{Brought, EventFate, QUIET_LIMIT, READ_LIMIT, ReadTurn, SLOW_LIMIT, ServeEnd};
@@ -304,6 +304,31 @@ fn settle_to_end<
     end
 }
 
+/// Whether so much has passed since a moment, of milliseconds or of quiet turns.
+pub(crate) fn is_over(since: u64, limit: u64, now: u64) -> bool
+    ensures { result ≡ nat_le (since + limit) now }
+{
+    since as u128 + limit as u128 <= now as u128
+}
+
+/// Answers a request under way, of which nothing came, with 408 once so much has passed since a moment.
+pub(crate) fn lapse<W: Write>(
+    alloc: Global,
+    encoding: Encoding,
+    writer: &mut W,
+    since: u64,
+    limit: u64,
+    now: u64,
+) -> Option<ServeEnd>
+    ensures { (r : RequestReading) → encoding ≡ encoding_in r → Lapses (W.contents writer.old) (W.contents writer.new) r (since + limit) now result }
+{
+    if is_over(since, limit, now) {
+        let told = answer(alloc, encoding, writer, &Response::TimedOut);
+        return end_with(told, true);
+    }
+    None
+}
+
 /// Deals with a quiet turn, the last of so many in a row.
 fn wait<E: Engine, W: Write, S: HasStopMark>(
     alloc: Global,
@@ -323,11 +348,7 @@ fn wait<E: Engine, W: Write, S: HasStopMark>(
         }
         return None;
     }
-    if row >= SLOW_LIMIT {
-        let told = answer(alloc, engine.encoding(), writer, &Response::TimedOut);
-        return end_with(told, true);
-    }
-    None
+    lapse(alloc, engine.encoding(), writer, 0, SLOW_LIMIT, row)
 }
 
 /// How a connection ends at the end of its stream: between requests, or within one.

@@ -9,14 +9,13 @@ ghost use Rattle.http_lane.specs.Requests.{Awaits};
 ghost use Rattle.http_lane.specs.Turns.{Waiting, waiting, AwaitsBy, Coming, IsTaken, IsTurnBy, nothing};
 ghost use Rattle.http_text.specs.declared.allowed.Allowed.{Allowed};
 
-use crate::answer::ServeEnd;
+use crate::answer::{REQUEST_LIMIT, ServeEnd};
 use crate::engine::Engine;
 use crate::lent::{Clock, HasStopMark, Lent};
 use crate::reads::PIECE_LIMIT;
 use crate::requests::Requests;
-use crate::serving::{answer, end_with, settle};
+use crate::serving::{is_over, lapse, settle};
 use drop_ledger::Counter;
-use http_answer::Response;
 use http_text::Allowed;
 use lane_queue::Port;
 use lane_seq::{Conn, Lane};
@@ -27,9 +26,6 @@ use std::io::Write;
 
 /// So many milliseconds without a byte end a connection between requests.
 pub const IDLE_LIMIT: u64 = 60_000;
-
-/// A request that isn't whole so many milliseconds after its first byte is answered with 408.
-pub const REQUEST_LIMIT: u64 = 10_000;
 
 /// A connection between two turns. It has a buffer only while a request is under way.
 #[derive(Drop)]
@@ -158,11 +154,14 @@ impl Exchange {
             }
             return None;
         }
-        if is_over(self.since, REQUEST_LIMIT, moment) {
-            let told = answer(alloc, self.encoding(), writer, &Response::TimedOut);
-            return end_with(told, true);
-        }
-        None
+        lapse(
+            alloc,
+            self.encoding(),
+            writer,
+            self.since,
+            REQUEST_LIMIT,
+            moment,
+        )
     }
 
     /// When it is to be looked at though nothing comes.
@@ -196,13 +195,6 @@ fn since_after(is_between: bool, begins: bool, answered: bool, since: u64, momen
     } else {
         since
     }
-}
-
-/// Whether so many milliseconds have passed since a moment.
-fn is_over(since: u64, limit: u64, moment: u64) -> bool
-    ensures { result ≡ nat_le (since + limit) moment }
-{
-    since as u128 + limit as u128 <= moment as u128
 }
 
 /// The engine of a connection: its own, or the spare one, or a new one. `None`: there is no memory for it.

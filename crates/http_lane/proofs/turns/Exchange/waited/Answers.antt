@@ -1,27 +1,23 @@
-use Rattle.std.proofs.Common.{◌≡◌, ◌≤◌, ◌+◌, ◌∙◌, refl, subst, sym, ap, [], ◌∷◌, inl, false}
-use Rattle.std.specs.Prelude.{MatchBool, nat_le}
-use Rattle.std.proofs.lemmas.Bool.{leb-true}
-use Rattle.http_lane.specs.declared.turns.TheConstants.{REQUEST_LIMIT}
-use Rattle.http_lane.specs.Connection.{timed_out}
+use Rattle.std.proofs.Common.{◌≡◌, ◌+◌, ◌∙◌, refl, subst, sym, [], false}
+use Rattle.std.specs.Prelude.{MatchBool}
+use Rattle.http_lane.specs.declared.answer.TheConstants.{REQUEST_LIMIT}
 use Rattle.http_lane.specs.Turns.{idle_end, IsLate}
-use Rattle.http_lane.proofs.EventLemmas.{one, can_text, writes_one}
+use Rattle.http_lane.specs.Connection.{IsLapse}
 use Rattle.http_lane.proofs.turns.Exchange.waited.Goals as goal
 
-pub returns-then-is_over-2 : goal.returns-then-is_over-2
-returns-then-is_over-2 g c = record {
+pub returns : goal.returns
+returns g c = record {
   turn = λ allowed w at since.
-      let e = one c.encoding.result timed_out c.answer-told.result in
-      let end = c.end_with.result in
+      let end = c.lapse.result in
       let within = sym (c.is_between.ensures allowed w at) ∙ c.if-is_between.false in
-      let puts = c.answer-told.ensures.puts in
-      let over : w.since + REQUEST_LIMIT ≤ c.args.moment = leb-true (w.since + REQUEST_LIMIT) c.args.moment (ap (λ n. nat_le (n + REQUEST_LIMIT) c.args.moment) (sym since) ∙ (sym c.is_over-2.ensures ∙ c.if-is_over-2.true)) in
-      let late : IsLate w.reading w.since c.args.moment (e ∷ []) end = inl (over, e, refl, refl, (can_text c.answer-told.result timed_out c.answer-told.ensures.fate refl, c.encoding.ensures allowed w at), c.end_with.ensures) in (
+      let lapsed = c.lapse.ensures w.reading (c.encoding.ensures allowed w at) in
+      let late : IsLate w.reading w.since c.args.moment lapsed.0 end = subst (λ n. IsLapse w.reading (n + REQUEST_LIMIT) c.args.moment lapsed.0 end) since lapsed.1 in (
         false,
-        e ∷ [],
-        (refl, refl, subst (λ b. MatchBool b ((e ∷ [] ≡ []) × (end ≡ idle_end w.since c.args.moment false)) (IsLate w.reading w.since c.args.moment (e ∷ []) end)) (sym within) late),
-        puts.0,
-        puts.1,
-        writes_one e puts.0 puts.2,
-        refl,
+        lapsed.0,
+        (refl, refl, subst (λ b. MatchBool b ((lapsed.0 ≡ []) × (end ≡ idle_end w.since c.args.moment false)) (IsLate w.reading w.since c.args.moment lapsed.0 end)) (sym within) late),
+        lapsed.2,
+        lapsed.3,
+        lapsed.4,
+        lapsed.5,
       );
 }
