@@ -40,6 +40,7 @@ pub(crate) fn may_try_again(outcome: AttemptOutcome) -> bool
 pub(crate) fn is_taken(outcome: AttemptOutcome) -> bool
     ensures { result ≡ is_taken outcome }
 {
+    // Not 202 or another 2xx: OTLP/HTTP says 200 (D-209).
     matches!(outcome, AttemptOutcome::Answered(200, _))
 }
 
@@ -91,6 +92,7 @@ impl Retry {
 fn with_jitter(wait: u64, random: u64) -> u64
     ensures { result ≡ with_jitter wait random }
 {
+    // With jitter, so that senders that failed together don't come back together.
     wait - random % (wait / 2 + 1)
 }
 
@@ -99,6 +101,7 @@ fn with_jitter(wait: u64, random: u64) -> u64
 fn wait_after(outcome: AttemptOutcome, wait: u64, random: u64) -> u64
     ensures { result ≡ wait_after outcome wait random }
 {
+    // A `Retry-After` of 0 counts as none: the backend would be asked again and again without a pause (D-204).
     match outcome {
         AttemptOutcome::Answered(_, Some(asked)) if asked > 0 => asked,
         _ => with_jitter(wait, random),

@@ -154,6 +154,7 @@ impl Board {
         for place in 1..PLACES {
             ended = ended.saturating_add(self.cell(place).load(Ordering::Relaxed));
         }
+        // Read one after the other while threads count on, so what has ended may be ahead for a moment.
         self.received.load(Ordering::Relaxed).saturating_sub(ended)
     }
 
@@ -267,6 +268,7 @@ impl Board {
     pub fn wrote(&self, bytes: &[u8]) {
         self.output_bytes
             .fetch_add(bytes.len() as u64, Ordering::Relaxed);
+        // However many writes a line took, its line feed is the end of the last.
         if bytes.ends_with(b"\n") {
             self.lines.fetch_add(1, Ordering::Relaxed);
         }
@@ -289,6 +291,7 @@ impl Board {
         for cells in &self.policies {
             let sampled = cells.sampled.load(Ordering::Relaxed);
             let not_sampled = cells.not_sampled.load(Ordering::Relaxed);
+            // No two samples may have the same labels, so these are told with what none decided (D-193).
             if cells.name.as_str().is_empty() {
                 unnamed.sampled = unnamed.sampled.saturating_add(sampled);
                 unnamed.not_sampled = unnamed.not_sampled.saturating_add(not_sampled);
@@ -362,6 +365,7 @@ impl Board {
 /// Cells for what no policy decides, and then for what each does, in order.
 fn policy_cells(alloc: Global, policies: &Policies) -> Result<Vec<PolicyCells>, AllocError> {
     let mut cells = Vec::new(alloc);
+    // For what no policy decides, such as a trace that is too big (D-040, D-066).
     cells.push(PolicyCells::new(Text::new(alloc)))?;
     for policy in policies.as_slice() {
         cells.push(PolicyCells::new(policy.name.try_clone(alloc)?))?;
@@ -377,6 +381,7 @@ impl Gate for Board {
     }
 
     fn counted(&self, place: usize, spans: u64) {
+        // The thread has it in its own report already, which is the one that is printed (D-195).
         self.cell(place).fetch_add(spans, Ordering::Relaxed);
     }
 

@@ -47,11 +47,13 @@ fn is_closing<T: Net<Listener = TcpListener, Stream = TcpStream>>(
     alloc: Global,
     config: &Config,
 ) -> io::Result<bool> {
+    // With an `admin` address the other one answers 404 (D-245).
     let mut address = config.admin.as_str();
     if address.is_empty() {
         address = config.listen.as_str();
     }
     let patience = Some(Duration::from_secs(PATIENCE));
+    // Where it listens at every address of the machine, this is one of them.
     let own = match port_alone(address) {
         Some(port) => format!(in alloc; "127.0.0.1:{port}")?,
         None => String::from_str(alloc, address)?,

@@ -38,6 +38,7 @@ pub enum ReadFault {
 
 /// What the file holds, or of a file that is too long one byte more than may be read.
 pub fn read_file<T: Files>(rt: &T, alloc: Global, path: &str) -> Result<Vec<u8>, FileFault> {
+    // No clause can say what a file holds, so all that is made of it stands apart, and is exact (D-219).
     match fs::open(rt, path) {
         Ok(file) => told(read_start(alloc, file)),
         Err(error) => told(Err(error)),
@@ -49,6 +50,7 @@ fn read_start<F: Read + Drop>(alloc: Global, file: F) -> io::Result<Vec<u8>>
     ensures { IfOk result (λ bytes. IsStart (F.Read.remaining file) bytes.items) }
 {
     let mut bytes = Vec::new(alloc);
+    // One byte more tells a file that is too long from one that just fits.
     file.take(MAX_CONFIG_LEN as u64 + 1)
         .read_to_end(&mut bytes)?;
     Ok(bytes)

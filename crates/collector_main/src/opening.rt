@@ -94,6 +94,7 @@ pub fn watches<
         );
         return Err(error);
     }
+    // Without a log, too, where numbers are told: it counts the jumps of the clock.
     if config.log != LogForm::Off || is_told(config) {
         let watched = EventWriter::new(errors, config.log);
         start_log_watch(rt, alloc, watched, Arc::try_clone(charge)?)?;
@@ -182,6 +183,7 @@ pub fn opened<
     answers_at(rt, alloc, admin, Access::Full, charge, events)?;
     let metrics = config.metrics.as_str();
     if let Err(error) = answers_at(rt, alloc, metrics, Access::Numbers, charge, events) {
+        // The other address may have made its socket's file already.
         end_admin(rt, admin);
         return Err(error);
     }

@@ -15,6 +15,7 @@ pub fn show_by<I: Read + Drop, E: Write + Drop>(
     ensures { InputShows (I.Read.remaining around.input) result }
 {
     let outcome = shown_of(alloc, read_body(alloc, around.input));
+    // On standard error, so that what reads the line of JSON gets nothing else (D-243).
     say_refusal(around.errors, &outcome);
     outcome
 }

@@ -73,6 +73,7 @@ fn told_in(alloc: Global, text: &str) -> Result<Outcome, AllocError>
     ensures { IfOk result (TextTells text.now) }
 {
     let all = faults(alloc, text)?;
+    // An address that can't be one is no fault, since a replay has no use for it; it is told behind them (D-224).
     if all.faults.is_empty() && all.addresses.is_empty() {
         return Ok(Outcome::Valid);
     }

@@ -131,6 +131,7 @@ pub fn socket_path(address: &str) -> Option<&str> {
 /// Listens at a socket's file that only its owner may use. It takes the place of one that is left of a collector which
 /// has ended; one at which there is still somebody is left alone.
 fn bind_socket<R: Net + Files>(rt: &R, alloc: Global, path: &str) -> io::Result<UnixListener> {
+    // One that is in use isn't replaced (D-194).
     if UnixStream::connect(rt, path).is_ok() {
         return Err(io::ErrorKind::AddrInUse.into());
     }
@@ -139,6 +140,7 @@ fn bind_socket<R: Net + Files>(rt: &R, alloc: Global, path: &str) -> io::Result<
     new.push_str(".new")?;
     let _ = fs::remove_file(rt, new.as_str());
     let listener = UnixListener::bind(rt, new.as_str())?;
+    // Before it gets its name, so that it is never open to others (D-194).
     fs::set_permissions(rt, new.as_str(), Permissions::from_mode(OWNER))?;
     fs::rename(rt, new.as_str(), path)?;
     Ok(listener)

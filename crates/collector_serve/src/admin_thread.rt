@@ -112,6 +112,7 @@ impl Reception {
         if has_room(self.visits.len()) {
             return;
         }
+        // So clients that say nothing keep nobody waiting (D-190).
         if let Some(oldest) = self.visits.pop_front() {
             oldest.visit.end();
             oldest.thread.join(rt);

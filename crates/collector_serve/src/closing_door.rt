@@ -97,6 +97,7 @@ impl ClosingDoor {
         listener: &TcpListener,
         charge: Arc<Charge, Global>,
     ) -> io::Result<Self> {
+        // The lanes' listener, of which they take nobody any more while traces are decided and sent (D-177).
         let listener = listener.try_clone()?;
         let own = *rt;
         let thread = thread::spawn(rt, move || stand(&own, alloc, &listener, &charge))?;
@@ -117,12 +118,14 @@ impl ClosingDoor {
 
 /// Looks again and again, until the run is over.
 fn stand<R: Wait + Clock>(rt: &R, alloc: Global, listener: &TcpListener, charge: &Charge) {
+    // Made at the start, since later there may be no memory for it.
     let Ok(text) = stopping_text(alloc) else {
         return;
     };
     let mut clients = Vec::new(alloc);
     let mut last_looks: u32 = 0;
     for _ in rt.forever() {
+        // Asked before clients are taken, so that who came before the end is answered.
         let is_over = charge.over.is_set();
         if !is_over && !charge.stop.is_set() {
             thread::sleep(rt, Duration::from_millis(PAUSE));

@@ -47,6 +47,7 @@ impl MemoryRule {
             self.most = taken;
             self.release = release_of(self.limit, taken, waiting);
         }
+        // What is freed goes back to the allocator and not to the system, so the spans that wait are looked at (D-173).
         self.limit < taken && self.release < waiting
     }
 

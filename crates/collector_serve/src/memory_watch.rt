@@ -68,6 +68,7 @@ fn pause_before(limit: u64, taken: u64) -> u64 {
 
 /// The bytes of memory that the process takes, by this account.
 fn bytes_taken<F: Read + Seek>(account: &mut F) -> io::Result<u64> {
+    // The system's account has whatever takes memory, the allocator's gaps too (D-173).
     account.seek(SeekFrom::Start(0))?;
     let mut text = [0; 128];
     let len = account.read(&mut text)?;

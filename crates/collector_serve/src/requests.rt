@@ -28,6 +28,7 @@ pub fn request_fields<'t>(
         name: b"Content-Type",
         value: encoding.media_type().as_bytes(),
     })?;
+    // A configuration with one that would override these is refused (D-207).
     for header in headers {
         fields.push(Header {
             name: header.name.as_str().as_bytes(),
@@ -45,6 +46,7 @@ fn export_room(config: &Config) -> usize
     ensures room { result ≡ export_room config.now }
     ensures some { 0 < result }
 {
+    // The exporter's queue is the one before the backend: a second one would hold lines twice (D-206).
     let spans = (config.export.queue_batches as usize).saturating_mul(config.send_batch_size);
     (spans / config.shards).max(config.export_capacity)
 }

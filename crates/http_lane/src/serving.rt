@@ -139,6 +139,7 @@ fn unpack<
 ) -> (bool, EventFate)
     ensures { Responds (Submits ShardPort.takes ShardPort.refuses) (Writer.contents writer.old) (Writer.contents writer.new) (intake lane.old conn.old (Ledger.counted counts.old)) (intake lane.new conn.new (Ledger.counted counts.new)) encoding limit true (Some body.now) says_close result }
 {
+    // What gives no text closes the connection, as what can't be read by HTTP does (D-122).
     match gunzip(lent.alloc, body, limit as usize) {
         Ok(text) => submit(
             lent,
@@ -182,6 +183,7 @@ fn respond<
             answer(lent.alloc, encoding, writer, &Response::Starved),
         );
     };
+    // Asked once the body is whole, before it is unpacked and before the clock is asked (D-120, D-125).
     if lent.stop.is_set() {
         return (
             true,
@@ -216,6 +218,7 @@ fn act<
     ensures acts { (r : RequestReading) → Parser.stands engine.old r → Acts Parser.stands Parser.awaits (Submits ShardPort.takes ShardPort.refuses) (Writer.contents writer.old) (Writer.contents writer.new) (intake lane.old conn.old (Ledger.counted counts.old)) (intake lane.new conn.new (Ledger.counted counts.new)) r result engine.new }
     ensures less { IsOpenAfter result → Parser.left engine.new < Parser.left engine.old }
 {
+    // Before `advance`: once a body is whole the engine awaits the next head, and has JSON again (D-112).
     let encoding = engine.encoding();
     match engine.advance() {
         Brought::Nothing => None,
@@ -224,6 +227,7 @@ fn act<
             Some((true, answer(lent.alloc, encoding, writer, &refused), true))
         }
         Brought::Close => {
+            // Before the answer is made, so also where there is no memory for that (D-124).
             lent.stop.set();
             Some((
                 true,
@@ -367,6 +371,7 @@ fn serve_turns<
     let mut piece = [0; PIECE_LIMIT];
     let mut row = 0;
     for _ in 0..READ_LIMIT {
+        // Quiet turns in a row are neighbours: a piece breaks the row, and an interrupted read does too (D-126).
         match reader.turn(&mut piece) {
             ReadTurn::Gave(n) => {
                 row = 0;

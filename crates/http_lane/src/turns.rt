@@ -202,6 +202,7 @@ fn since_after(is_between: bool, begins: bool, answered: bool, since: u64, momen
 fn is_over(since: u64, limit: u64, moment: u64) -> bool
     ensures { result ≡ nat_le (since + limit) moment }
 {
+    // In 128 bits, since a moment and a limit may add up to more than 2^64-1.
     since as u128 + limit as u128 <= moment as u128
 }
 
@@ -231,6 +232,7 @@ fn taken(
 fn kept(engine: Requests) -> Option<Requests>
     ensures { (r : RequestReading) → Awaits engine r → IfSome result (λ kept. Awaits kept r) }
 {
+    // What one large request took isn't held for as long as the lane lives (D-121).
     if engine.is_roomy() {
         return None;
     }

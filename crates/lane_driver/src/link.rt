@@ -131,6 +131,7 @@ impl ConnectionSocket {
         if self.phase != Phase::Serving {
             return Looked::Over;
         }
+        // The collector closes, and no client may hold its end (D-177).
         if is_cut && !is_idle {
             return Looked::Leaves(Leaving::ReadFailed);
         }
@@ -173,6 +174,7 @@ impl ConnectionSocket {
 
     /// Its connection has ended in the lane's table. An answer that closes is still to be sent.
     pub fn end(&mut self, end: ServeEnd, moment: u64) -> SocketStep {
+        // Behind every other end there is nothing to send.
         if end != ServeEnd::Answered {
             return SocketStep::Over;
         }
@@ -191,6 +193,8 @@ impl ConnectionSocket {
         if self.stream.shutdown(Shutdown::Write).is_err() {
             return SocketStep::Over;
         }
+        // A socket that is closed with bytes unread is reset, and the answer may be lost by that (RFC 9112, section
+        // 9.6).
         self.phase = Phase::Lingering { left: LINGER_BYTES };
         self.since = moment;
         SocketStep::GoesOn

@@ -79,6 +79,7 @@ impl Links {
         if self.is_at_limit() {
             return since.saturating_add(NAP);
         }
+        // Looked at anew each time: where other lanes' connections have left this one waits the longer (D-170).
         let least = self.loads.least();
         let fewest = least.saturating_add(least / 8);
         let more = (self.slab.len() as u64).saturating_sub(fewest);
@@ -128,6 +129,7 @@ impl Links {
             is_new = !link.is_listed;
             link.is_listed = true;
         }
+        // What isn't listed for want of memory has its next turn once more comes, or at its deadline.
         if is_new && self.ready.push_back(place).is_err() {
             self.unlist(place);
         }

@@ -86,6 +86,7 @@ impl Outgoing {
     {
         self.at += n;
         if self.at == self.bytes.len() {
+            // A new list in place of an empty one, since an idle connection is to hold no memory for answers.
             self.bytes = Vec::new(self.alloc);
             self.at = 0;
         }

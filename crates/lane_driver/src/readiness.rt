@@ -58,6 +58,7 @@ impl<'l> Readiness<'l> {
         listener: &'l TcpListener,
     ) -> io::Result<Self> {
         let poll = Poll::new(rt)?;
+        // All lanes watch one listener, and the system chooses which of them takes a connection (D-170).
         let fd = listener.as_raw_fd();
         poll.registry()
             .register(&mut SourceFd(&fd), LISTENER, Interest::READABLE)?;
@@ -74,6 +75,7 @@ impl<'l> Readiness<'l> {
     pub fn accept(&self) -> Accepted {
         match self.listener.accept() {
             Ok((stream, _)) => {
+                // Without delay: an answer is whole, and nothing follows that its last bytes could wait for.
                 if stream.set_nonblocking(true).is_ok() && stream.set_nodelay(true).is_ok() {
                     return Accepted::Connection(TcpStream::from_std(stream));
                 }
@@ -82,6 +84,7 @@ impl<'l> Readiness<'l> {
             Err(error) => match error.kind() {
                 ErrorKind::WouldBlock => Accepted::Nothing,
                 ErrorKind::Interrupted | ErrorKind::ConnectionAborted => Accepted::Broken,
+                // Whatever else is wrong, it is tried again after a pause.
                 _ => Accepted::NoFile,
             },
         }
@@ -89,6 +92,7 @@ impl<'l> Readiness<'l> {
 
     /// From now on it is told when the connection at this place may be read or written. `false`: that can't be.
     pub fn watch(&self, stream: &mut TcpStream, place: usize) -> bool {
+        // Interest::WRITABLE; | For both at once, so that nothing is registered anew when an answer has to wait.
         let both = Interest::READABLE | Interest::WRITABLE;
         self.poll
             .registry()
@@ -111,6 +115,7 @@ impl<'l> Readiness<'l> {
             return;
         }
         for event in self.events.iter() {
+            // There is room for `EVENTS`, and one wait finds no more.
             let _ = self.found.push(event.token());
         }
     }

@@ -52,6 +52,7 @@ impl Walk {
         self.at = None;
         self.next = self.least;
         if self.least < u64::MAX {
+            // Not at once, since a walk looks at every connection.
             self.next = self.least.max(now.saturating_add(PAUSE));
         }
     }

@@ -51,6 +51,7 @@ pub struct OneByOne<F> {
     pub acceptor: F,
 }
 
+// The program serves by turns (`ByTurns`): only tests have an acceptor (D-155).
 impl<F: Acceptor> LaneServer for OneByOne<F> {
     ghost use Rattle.lane_worker.specs.Serving.{connection, HasServed};
 
@@ -109,6 +110,7 @@ impl<D: Driver> LaneServer for ByTurns<D> {
         counter: &mut Ledger,
         _gate: &Observer,
     ) -> bool {
+        // No gate: it holds a lane between two connections, and these are served side by side.
         serve_turns(rt, lent, self.allowed, &mut self.driver, lane, counter)
     }
 }

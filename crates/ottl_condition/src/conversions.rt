@@ -37,6 +37,7 @@ pub(crate) fn as_int<'a, 'r>(value: &Value<'_, '_>) -> Value<'a, 'r>
 {
     match value {
         Value::Int(number) => Value::Int(*number),
+        // Of one that doesn't fit the nearest, and 0 of a NaN, where Go's answer depends on the machine (D-337).
         Value::Float(number) => Value::Int(saturating_f64_to_i64(*number)),
         Value::Bool(truth) => Value::Int(number_of(*truth)),
         Value::Text(text) => int_or_nil(text.as_bytes()),
@@ -100,6 +101,7 @@ pub(crate) fn as_text<'a, 'r>(value: &Value<'a, 'r>) -> Result<Value<'a, 'r>, Ev
         Value::Digits(digits) => Ok(Value::Digits(*digits)),
         Value::Int(number) => Ok(Value::Digits(decimal(*number))),
         Value::Bool(truth) => Ok(Value::Text(truth_text(*truth))),
+        // The Collector makes a text of these, too (D-338).
         _ => Err(EvalError::NoText),
     }
 }
@@ -134,6 +136,7 @@ fn piece(text: &[u8], start: usize, size: usize) -> Option<&str>
     ensures piece { option_map (λ found. found.now) result ≡ spec.piece text.now start size }
     ensures within { IfSome result (λ found. length found.now ≤ length text.now) }
 {
+    // In bytes, as in Go; a part of no byte is an error (D-339).
     if size == 0 || text.len() < size || text.len() - size < start {
         return None;
     }

@@ -32,6 +32,7 @@ fn kind_text(kind: i32) -> &'static str
         3 => "Client",
         4 => "Producer",
         5 => "Consumer",
+        // So of a number that isn't known (D-300).
         _ => "",
     }
 }
@@ -106,6 +107,7 @@ fn span_id_value<'a, 'r>(id: Option<SpanId>) -> Value<'a, 'r>
 fn id_value<'a, 'r>(root: Root, ids: Option<Ids>) -> Value<'a, 'r>
     ensures { value_of result ≡ spec.id_value root ids }
 {
+    // A span of which one id isn't valid has none of the three (D-299).
     match (root, ids) {
         (Root::ParentSpanIdText, ids) => span_id_value(parent_of(ids)),
         (Root::SpanIdText, Some(ids)) => Value::Digits(span_digits(ids.span)),
@@ -154,6 +156,7 @@ pub(crate) fn attributes_at<'a>(root: Root, subject: &Subject<'a>) -> Option<&'a
 fn root_value<'a, 'r>(root: Root, sent: &'a Record) -> Value<'a, 'r>
     ensures { value_of result ≡ spec.root_value root sent.now }
 {
+    // Times from 2^63 on are negative below, as Go's `int64` is (D-301).
     let span = sent.span.get();
     match root {
         Root::Name => Value::Text(span.name.as_str()),
@@ -198,6 +201,7 @@ fn outer_value<'a, 'r>(root: Root, sent: &'a Record) -> Value<'a, 'r>
 fn look_up<'a, 'r>(key: &str, pairs: &'a [KeyValue]) -> Option<Value<'a, 'r>>
     ensures { option_map value_of result ≡ spec.look_up key.now pairs.now }
 {
+    // Of two attributes with one key the first (D-309).
     match pair_of(key, pairs) {
         Some(pair) => Some(Value::of_attribute(&pair.value)),
         None => None,
@@ -241,6 +245,7 @@ fn walk<'a, 'r>(value: &Value<'a, 'r>, keys: &[Key]) -> Result<Value<'a, 'r>, Ev
         None => Ok(value.again()),
         Some((first, rest)) => match step_into(value, first) {
             Ok(Some(inside)) => walk(&inside, rest),
+            // Behind a missing key every other one is missing, too (D-302).
             Ok(None) => Ok(Value::Nil),
             Err(error) => Err(error),
         },

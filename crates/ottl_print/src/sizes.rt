@@ -124,6 +124,7 @@ fn saves_levels(sparing: bool, left: &Expression, size: Size, right: usize) -> b
     ensures { (s : spec.Size) (n : ℕ) → IsSizeOf s size.levels size.row → IsCapped right n → s.levels ≤ 200
         → result ≡ spec.saves_levels sparing (term_of left.now) s n }
 {
+    // Operators in a row count as levels, so parentheses may save some (D-357).
     let is_long = size.levels < size.row + 2 + right;
     if sparing && is_row(left) {
         is_long

@@ -18,6 +18,7 @@ const MOST_LEVELS: usize = 200;
 pub fn parse(alloc: Global, context: Context, text: &[u8]) -> Result<Expression, ParseError>
     ensures { GivesAs term_of result (condition_of context text.now) }
 {
+    // A fault's column is counted from here back, by what is left of the text.
     let behind = text.len() + 1;
     let (condition, rest) = expression(alloc, behind, context, MOST_LEVELS, 1, text)?;
     let (token, _) = next_at(behind, rest)?;

@@ -28,6 +28,7 @@ pub fn judge(
     ensures same { searches.new ≡ searches.old }
 {
     let (verdict, asked) = verdict_and_askings(policies, spans, answers, searches);
+    // With another number of answers there is no such decision (D-055).
     if asked == answers.len() {
         Some(verdict)
     } else {

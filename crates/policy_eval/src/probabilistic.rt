@@ -23,6 +23,7 @@ pub fn is_chosen(salt: &str, ten_thousandths: u32, spans: &[Arrival]) -> bool
 fn threshold(ten_thousandths: u32) -> u128
     ensures { result ≡ threshold ten_thousandths }
 {
+    // Rounded down, in whole numbers; at 0 a hash of 0 still is within it (D-041).
     u128::from(ten_thousandths) * u128::from(u64::MAX) / 1_000_000
 }
 
@@ -31,6 +32,7 @@ fn hash_of(salt: &str, spans: &[Arrival]) -> u128
     ensures { result ≡ fnv_1a (salt.now ++ trace_of spans.now) }
 {
     let salted = hash_on(OFFSET_BASIS, salt.as_bytes());
+    // All spans of an episode have one trace id (D-044).
     let hash = match spans.first().and_then(|first| first.rec.span.get().ids) {
         Some(ids) => hash_on(salted, &ids.trace.bytes()),
         None => salted,

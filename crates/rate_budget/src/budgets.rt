@@ -65,6 +65,7 @@ fn ask_in(counts: &mut [LimiterCount], node: u16, second: u64, n: u64) -> bool
     ensures after { counts.new ≡ after_by counts.old node second n }
 {
     let mut i = 0;
+    // There are 64 policies at most, so they are walked over.
     while i < counts.len() {
         if counts[i].node == node {
             return counts[i].ask(second, n);

@@ -63,6 +63,7 @@ impl Connections {
         }
         let lane = (number % self.connected.len() as u64) as usize;
         let ordinal = self.connected[lane];
+        // Answered as where memory was refused (D-233).
         let Some(next) = ordinal.checked_add(1) else {
             return Err(AllocError);
         };

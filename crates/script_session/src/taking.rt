@@ -37,6 +37,7 @@ pub fn take_item<S: Sink>(
     ensures settings { settings shard.new ≡ settings shard.old }
     ensures goes_on { GoesOn output.old output.new }
 {
+    // Nothing limits memory here but the allocator itself.
     let taken = shard.take(item, true);
     pull_taken(output, taken);
     decide_all(shard, limiter, output);
@@ -47,6 +48,7 @@ fn pull_taken<S: Sink>(output: &mut Output<S>, taken: Taken)
     ensures pulls { PullsAll output.old (released_by taken) (λ reason. dropped_by reason taken) output.new }
     ensures goes_on { GoesOn output.old output.new }
 {
+    // As `settle_taken` of `shard_worker`, but into a batch that sends itself, and without a runtime (D-284).
     match taken {
         Taken::Late(arrival) => output.pull(arrival),
         Taken::Dropped(reason) => output.count(Count::Dropped(reason), 1),
@@ -217,6 +219,7 @@ pub fn tell_each<S: Sink>(
     ensures length { length shards.new ≡ length shards.old }
     ensures goes_on { GoesOn output.old output.new }
 {
+    // In turn over one limiter, so shard 0 is always asked first (D-056).
     tell_from(shards, 0, limiter, output, signal);
 }
 

@@ -141,6 +141,7 @@ fn is_oversized(
 fn is_root_past(root_wait: Moment, now: Moment, journal: &[Entry], opening: &Opening) -> bool
     ensures { result ≡ is_root_past root_wait now (reverse journal.now) opening.now }
 {
+    // Some such root, as the definition says it; a shard keeps the first one alone (D-071).
     let mut clock = 0;
     let mut found = false;
     for at in 0..journal.len() {

@@ -78,6 +78,7 @@ pub fn tell_load<C: Room, G: Gate>(
     let Some(now) = telling else {
         return told;
     };
+    // A walk over all traces that wait: for that there is a pause between two.
     let (traces, spans) = shard.waiting();
     let waited = match shard.oldest_waiting() {
         Some(opened) => now.saturating_sub(opened),
