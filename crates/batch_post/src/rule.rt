@@ -20,7 +20,7 @@ pub struct Retry {
 pub enum RetryVerdict {
     /// The backend took the batch.
     Taken,
-    /// The batch is tried again after so many milliseconds.
+    /// The batch is tried again after this number of milliseconds.
     Waits(u64),
     /// The batch is given up.
     Ends,
@@ -52,8 +52,8 @@ impl Retry {
         wait.saturating_mul(2).min(self.longest)
     }
 
-    /// Whether it is too late for an attempt after this wait, so long after the first one began, where so much time is
-    /// left to a collector that closes.
+    /// Whether it is too late for an attempt after this wait, where `elapsed` has passed since the first one began, and
+    /// `left` is what is left to a collector that closes.
     fn is_too_late(&self, elapsed: u64, wait: u64, left: Option<u64>) -> bool
         ensures { result ≡ is_too_late self.now elapsed wait left }
     {
@@ -96,8 +96,7 @@ fn with_jitter(wait: u64, random: u64) -> u64
     wait - random % (wait / 2 + 1)
 }
 
-/// How long is waited after an attempt: as the answer asks, where it asks for some time, else for this long, with
-/// jitter.
+/// The wait after an attempt: that which the answer asks for, where it asks for some time, else this one, with jitter.
 fn wait_after(outcome: AttemptOutcome, wait: u64, random: u64) -> u64
     ensures { result ≡ wait_after outcome wait random }
 {

@@ -9,7 +9,7 @@ use policy_tree::Policies;
 use std::alloc::{AllocError, Global};
 use std::sync::atomic::{AtomicBool, AtomicU64, Ordering};
 
-/// So many counts a report has.
+/// The number of counts in a report.
 const PLACES: usize = 9;
 
 /// What a shard told last of what it holds.
@@ -99,7 +99,7 @@ pub struct Board {
 }
 
 impl Board {
-    /// Nothing was counted, and requests are taken, by so many shards that decide by these policies.
+    /// Nothing was counted, and requests are taken. The shards, of this number, decide by these policies.
     pub fn new(alloc: Global, shards: usize, policies: &Policies) -> Result<Self, AllocError> {
         let mut cells = Vec::new(alloc);
         for _ in 0..shards {
@@ -158,7 +158,7 @@ impl Board {
         self.received.load(Ordering::Relaxed).saturating_sub(ended)
     }
 
-    /// The backend took a line of so many bytes.
+    /// The backend took a line of this number of bytes.
     pub fn delivered(&self, bytes: u64) {
         self.output_bytes.fetch_add(bytes, Ordering::Relaxed);
         self.lines.fetch_add(1, Ordering::Relaxed);
@@ -169,7 +169,7 @@ impl Board {
         self.has_failed.store(true, Ordering::Relaxed);
     }
 
-    /// The backend rejected so many spans of a batch that it took.
+    /// The backend rejected this number of spans of a batch that it took.
     pub fn rejects(&self, spans: u64) {
         self.rejected.fetch_add(spans, Ordering::Relaxed);
     }
@@ -326,7 +326,7 @@ impl Board {
         Ok(numbers)
     }
 
-    /// The process takes so many bytes of memory.
+    /// The process takes this number of bytes of memory.
     pub fn takes(&self, bytes: u64) {
         self.memory_bytes.store(bytes, Ordering::Relaxed);
     }

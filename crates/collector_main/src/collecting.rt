@@ -26,7 +26,7 @@ use tsc_config::{Config, OutputFault};
 /// A mebibyte.
 const MEBIBYTE: u64 = 1_048_576;
 
-/// Takes requests on a listener by the configuration in what was read of its file, which has this path.
+/// Takes requests on a listener by the configuration in what was read from its file, which has this path.
 pub fn serve_by<
     T: Files<File = File>
         + Net<Listener = TcpListener, Stream = TcpStream>

@@ -1,4 +1,4 @@
-//! The configuration: what is read of its file, and what that is read as.
+//! The configuration: what is read from its file, and what that is read as.
 ghost use Rattle.std.specs.Prelude.{◌≡◌, ◌≢◌, Ok, Err, IfOk, IfErr, IfSome, IfNone, string_bytes};
 ghost use Rattle.std.specs.IoError.{error_kind};
 ghost use Rattle.tsc_config.specs.Values.{InRange};
@@ -86,7 +86,7 @@ fn read_fault(kind: ErrorKind) -> ReadFault
     }
 }
 
-/// The configuration in what was read of its file.
+/// The configuration in what was read from its file.
 pub fn config_of(alloc: Global, file: Result<Vec<u8>, FileFault>) -> Result<Config, Outcome>
     ensures ranges { IfOk result InRange }
     ensures is_read { IfOk result (IsConfigOf (file_of (λ v. v.items) file)) }

@@ -26,7 +26,7 @@ use std::sync::{Arc, Wait};
 use std::{fs, io};
 use tsc_config::{Config, LogForm};
 
-/// A copy of what was read of the configuration's file, for those in charge, and nothing where it wasn't read.
+/// A copy of what was read from the configuration's file, for those in charge, and nothing where it wasn't read.
 pub fn copy_of(alloc: Global, file: &Result<Vec<u8>, FileFault>) -> Result<String, AllocError>
     ensures { IfOk result (λ copy. (bytes : List ℕ) → file_of (λ v. v.items) file.now ≡ Ok bytes → IsUtf8 bytes → string_bytes copy ≡ bytes) }
 {

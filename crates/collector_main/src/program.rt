@@ -231,7 +231,7 @@ fn run<
     }
 }
 
-/// Runs the script by the configuration in what was read of its file.
+/// Runs the script by the configuration in what was read from its file.
 fn replay_by<R: Source, W: Write>(
     alloc: Global,
     file: Result<Vec<u8>, FileFault>,

@@ -9,7 +9,7 @@ use config_faults::ConfigFault;
 use config_findings::{AddressFinding, ConfigFinding, faults};
 use std::alloc::{AllocError, Global};
 
-/// What is told of the configuration in what was read of its file.
+/// What is told of the configuration in what was read from its file.
 pub fn told_of(alloc: Global, path: &str, file: Result<Vec<u8>, FileFault>) -> Outcome
     ensures { FileTells (file_of (λ v. v.items) file) result }
 {

@@ -12,16 +12,16 @@ use std::rt::Files;
 use std::time::Duration;
 use std::{fs, io};
 
-/// What an address begins with that is the path of a socket's file.
+/// The beginning of an address that is the path of a socket's file.
 const UNIX: &str = "unix:";
 
 /// Who may use a socket's file: its owner.
 const OWNER: u32 = 0o600;
 
-/// How long a read waits for one who asks, in milliseconds.
+/// The longest wait of a read for one who asks, in milliseconds.
 const READ_TIMEOUT: u64 = 100;
 
-/// How long a write waits for one who asks, in milliseconds.
+/// The longest wait of a write for one who asks, in milliseconds.
 const WRITE_TIMEOUT: u64 = 1_000;
 
 /// What takes connections.
@@ -59,7 +59,7 @@ impl Door {
         }
     }
 
-    /// The next connection, whose reads and writes wait only so long.
+    /// The next connection, whose reads and writes wait no longer than these limits.
     pub fn next(&self) -> io::Result<Peer> {
         let read_limit = Some(Duration::from_millis(READ_TIMEOUT));
         let write_limit = Some(Duration::from_millis(WRITE_TIMEOUT));

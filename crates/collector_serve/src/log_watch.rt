@@ -17,7 +17,7 @@ use std::thread::Threads;
 use std::time::{Clock, Duration};
 use std::{io, thread};
 
-/// So long lies between two looks, in milliseconds.
+/// The time between two looks, in milliseconds.
 const PAUSE: u64 = 500;
 
 /// What may begin and be over again: what is said at its beginning, at its end, and of what it tells the number.

@@ -38,8 +38,8 @@ pub fn request_fields<'t>(
     Ok(fields)
 }
 
-/// How many spans wait between a shard and the backend: the shard's share of so many full batches, and at least
-/// `export_capacity`.
+/// How many spans wait between a shard and the backend: the shard's share of `queue_batches` full batches, and at
+/// least `export_capacity`.
 fn export_room(config: &Config) -> usize
     requires shards { 0 < config.now.shards }
     requires capacity { 0 < config.now.export_capacity }
@@ -51,7 +51,7 @@ fn export_room(config: &Config) -> usize
     (spans / config.shards).max(config.export_capacity)
 }
 
-/// The configuration of a run whose lines are sent: so many spans wait for the backend.
+/// The configuration of a run whose lines are sent, with that room for spans that wait for the backend.
 pub fn with_export_room(config: Config) -> Config
     requires { InRange config }
     ensures room { result ≡ record config { export_capacity = export_room config } }

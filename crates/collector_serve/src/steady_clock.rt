@@ -40,7 +40,7 @@ impl<'r, R: Clock> Moments for SteadyClock<'r, R> {
     }
 }
 
-/// The moment at which so much time has passed since the start, at most 2^64-1.
+/// The moment at which this time has passed since the start, at most 2^64-1.
 fn moment_after(start: u64, passed: Duration) -> u64
     ensures { result ≡ moment_after start (as_nanos passed) }
 {

@@ -118,7 +118,7 @@ fn unfit(fault: GzipFault) -> Response
     }
 }
 
-/// Unpacks a body and serves its text, which may have so many bytes.
+/// Unpacks a body and serves its text, which may have at most `limit` bytes.
 fn unpack<
     'l,
     ShardPort: Port<Item>,
@@ -309,7 +309,7 @@ fn settle_to_end<
     end
 }
 
-/// Deals with a quiet turn, the last of so many in a row.
+/// Deals with a quiet turn, the last of `row` in a row.
 fn wait<E: Engine, W: Write, S: HasStopMark>(
     alloc: Global,
     engine: &E,

@@ -25,10 +25,10 @@ use otlp_types::Item;
 use std::alloc::Global;
 use std::io::Write;
 
-/// So many milliseconds without a byte end a connection between requests.
+/// The time without a byte that ends a connection between requests, in milliseconds (D-171).
 pub const IDLE_LIMIT: u64 = 60_000;
 
-/// A request that isn't whole so many milliseconds after its first byte is answered with 408.
+/// The time from its first byte on in which a request has to be whole, in milliseconds; else it is answered with 408.
 pub const REQUEST_LIMIT: u64 = 10_000;
 
 /// A connection between two turns. It has a buffer only while a request is under way.
@@ -198,7 +198,7 @@ fn since_after(is_between: bool, begins: bool, answered: bool, since: u64, momen
     }
 }
 
-/// Whether so many milliseconds have passed since a moment.
+/// Whether `limit` milliseconds have passed since a moment.
 fn is_over(since: u64, limit: u64, moment: u64) -> bool
     ensures { result ≡ nat_le (since + limit) moment }
 {

@@ -79,7 +79,7 @@ impl Outgoing {
         }
     }
 
-    /// So many bytes were sent.
+    /// `n` bytes were sent.
     fn skip(&mut self, n: usize)
         requires { n ≤ length self.old }
         ensures { self.new ≡ drop n self.old }

@@ -12,10 +12,10 @@ use std::time::{Clock, Duration, Instant};
 /// The listener's token; a connection's is its place among the links.
 const LISTENER: Token = Token(usize::MAX);
 
-/// So long a lane waits at most before it looks at the mark to stop, in milliseconds.
+/// The longest time that a lane waits before it looks at the mark to stop, in milliseconds.
 pub const NAP: u64 = 100;
 
-/// So many are found at once at most.
+/// The most that one wait finds.
 pub const EVENTS: usize = 256;
 
 /// What is ready.
@@ -71,7 +71,7 @@ impl<'l> Readiness<'l> {
         })
     }
 
-    /// Takes a connection of the listener, without waiting for one.
+    /// Takes a connection from the listener, without waiting for one.
     pub fn accept(&self) -> Accepted {
         match self.listener.accept() {
             Ok((stream, _)) => {
@@ -106,7 +106,7 @@ impl<'l> Readiness<'l> {
         Some(u64::try_from(since.as_millis()).unwrap_or(u64::MAX))
     }
 
-    /// Waits until something is ready, for so many milliseconds at most.
+    /// Waits until something is ready, for at most `limit` milliseconds.
     pub fn wait(&mut self, limit: u64) {
         let found = self
             .poll

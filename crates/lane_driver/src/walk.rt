@@ -1,7 +1,7 @@
 //! Walks over all connections, for those whose time is over.
 ghost use Rattle.std.specs.Prelude.{◌≤◌};
 
-/// So long lie between two walks at least, in milliseconds.
+/// The least time between two walks, in milliseconds.
 const PAUSE: u64 = 100;
 
 /// A walk over all places, and when the next begins.

@@ -30,7 +30,7 @@ use std::time::Clock;
 pub enum Next {
     /// To take a connection.
     Take,
-    /// So many bytes came on the connection at this key.
+    /// `len` bytes came on the connection at this key.
     Came { key: usize, len: usize },
     /// To look at how long the connection at this key has waited.
     Look { key: usize },

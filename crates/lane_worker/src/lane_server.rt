@@ -17,8 +17,8 @@ use std::time::Clock;
 
 /// What serves the connections of a lane.
 pub trait LaneServer {
-    /// What it does to a lane whose queues may hold so many items: itself and the lane before and after it served all,
-    /// and whether a count would have passed 2^64-1.
+    /// What it does to a lane whose queues may hold this number of items: itself and the lane before and after it
+    /// served all, and whether a count would have passed 2^64-1.
     ghost serves: { ℕ → Self → LaneAt → Self → LaneAt → Bool → Type 0 };
 
     /// Serves connections until there are none any more, or a count would have passed 2^64-1, and says whether that was

@@ -131,7 +131,7 @@ pub(crate) fn as_duration<'a, 'r>(value: &Value<'_, '_>) -> Result<Value<'a, 'r>
     }
 }
 
-/// Of a text so many bytes from a place on, where it has them, and they are whole characters.
+/// The `size` bytes of a text from a place on, where it has them, and they are whole characters.
 fn piece(text: &[u8], start: usize, size: usize) -> Option<&str>
     ensures piece { option_map (λ found. found.now) result ≡ spec.piece text.now start size }
     ensures within { IfSome result (λ found. length found.now ≤ length text.now) }
@@ -167,7 +167,7 @@ fn piece_of(text: &[u8], start: i64, size: i64) -> Option<&str>
     }
 }
 
-/// `Substring`: of a text so many bytes from a place on.
+/// `Substring`: the `size` bytes of a text from a place on.
 #[tactic(auto, unfolding(crate::specs::Conversions::part_of))]
 pub(crate) fn part_of<'a, 'r>(
     of: &Value<'a, 'r>,

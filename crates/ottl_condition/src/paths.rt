@@ -16,9 +16,10 @@ use ottl_equality::pair_of;
 use ottl_text::{Key, Path, Root};
 use span_ids::{SpanId, TraceId};
 
-/// The digits of no id of a span, and of a trace.
+/// The digits that stand for no id of a span.
 const NO_SPAN: &str = "0000000000000000";
 
+/// The digits that stand for no id of a trace.
 const NO_TRACE: &str = "00000000000000000000000000000000";
 
 /// A kind's name; other numbers have none.

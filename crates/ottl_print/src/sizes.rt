@@ -24,7 +24,7 @@ fn capped(n: usize) -> usize
     if n > TOO_MANY { TOO_MANY } else { n }
 }
 
-/// So many levels more.
+/// These levels, and `by` more.
 fn more(levels: usize, by: usize) -> usize
     requires { (levels ≤ 201) × (by ≤ 2) }
     ensures small { result ≤ 201 }
@@ -164,7 +164,7 @@ fn operator_size(sparing: bool, binary: Binary, left: &Expression, size: Size, r
     joined(parentheses, size, right)
 }
 
-/// How tight what a function takes has to bind.
+/// The least tightness of what a function takes.
 pub(crate) const ARGUMENT: u8 = 4;
 
 /// How tight what it takes has to bind.

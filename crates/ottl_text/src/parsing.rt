@@ -9,7 +9,7 @@ use crate::pieces::{is_end, next_at, refused};
 use crate::reading::expression;
 use std::alloc::Global;
 
-/// So many levels may nest, or operators stand in a row.
+/// The most levels that may nest, and the most operators in a row (D-310).
 const MOST_LEVELS: usize = 200;
 
 /// The condition on a span, or on an event of a span, that a text is, or its first fault, from left to right. `NoMemory`

@@ -97,7 +97,7 @@ fn operators(
     }
 }
 
-/// An operand, whose parts nest at most so many levels, and what is left.
+/// An operand, whose parts nest at most `levels` deep, and what is left.
 #[cycle(expression)]
 #[tactic(auto, unfolding(crate::specs::Grammar::operand))]
 fn operand(

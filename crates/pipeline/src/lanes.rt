@@ -125,7 +125,7 @@ struct LaneLists<'s, C: Room, R: Wait> {
     room: Vec<Sender<Item, C>>,
 }
 
-/// Room for so many ports, and for their ends.
+/// Room for `count` ports, and for their ends.
 fn lane_lists<'s, C: Room, R: Wait>(
     alloc: Global,
     count: usize,

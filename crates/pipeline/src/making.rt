@@ -256,7 +256,7 @@ fn run_ends<'s, C: Room, D: Room, R: Wait>(
     })
 }
 
-/// Room for what so many lanes, the ticker, so many shards and the exporter leave.
+/// Room for what the lanes, the ticker, the shards and the exporter leave.
 fn rooms_for<'s, C: Room, D: Room, R: Wait>(
     alloc: Global,
     lanes: usize,
@@ -283,7 +283,7 @@ fn rooms_for<'s, C: Room, D: Room, R: Wait>(
     })
 }
 
-/// Room for the seats and ends of so many shards.
+/// Room for the seats and ends of the shards.
 fn ends_room<'s, C: Room, D: Room, R: Wait>(
     alloc: Global,
     shards: usize,

@@ -73,7 +73,7 @@ fn verdict_and_askings(
     (seen.verdict(), asked)
 }
 
-/// The answer of the policy, where so many of the answers were given before, and how many there are with its own.
+/// The answer of the policy, where `asked` of the answers were given before, and how many there are with its own.
 fn answer_given(
     policy: &Policy,
     spans: &[Arrival],

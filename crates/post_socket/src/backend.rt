@@ -15,10 +15,10 @@ use std::random::RandomSource;
 use std::time::{Clock, Duration, Instant};
 use std::{io, thread};
 
-/// So long a wait lasts at least before it is looked whether the collector closes, in milliseconds.
+/// The longest sleep in a wait, between two looks whether the collector closes, in milliseconds.
 const SLICE: u64 = 50;
 
-/// Where a backend is, and how long is waited for it, in milliseconds.
+/// Where a backend is, and the longest waits for it, in milliseconds.
 #[derive(Clone, Copy)]
 pub struct BackendSettings<'t> {
     /// Its host and port.
@@ -174,7 +174,7 @@ impl<'t, V: Watch, R: Net<Stream = TcpStream> + Clock + RandomSource> SocketBack
     }
 }
 
-/// A connection to the first address of a host that takes one, within so many milliseconds for all of them.
+/// A connection to the first address of a host that takes one, within `limit` milliseconds for all of them.
 fn connect<R: Net<Stream = TcpStream> + Clock>(
     rt: &R,
     authority: &str,

@@ -16,7 +16,7 @@ pub struct LimiterCount {
 }
 
 impl LimiterCount {
-    /// Whether so many spans or bytes, as the limit has it, are granted in this second. A second before the greatest
+    /// Whether `n` spans or bytes, as the limit has it, are granted in this second. A second before the greatest
     /// one counts as the greatest.
     pub fn ask(&mut self, second: u64, n: u64) -> bool
         ensures answer { result ≡ grants_of second n self.old }

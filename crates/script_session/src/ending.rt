@@ -11,7 +11,7 @@ use rate_budget::Budgets;
 use shard_core::Shard;
 use span_sink::Sink;
 
-/// So many lanes end at each shard, and then the ticker.
+/// The lanes, of this number, end at each shard, and then the ticker.
 pub fn end_all<S: Sink>(
     shards: &mut [Shard],
     limiter: &mut Budgets,

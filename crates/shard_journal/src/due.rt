@@ -175,7 +175,7 @@ fn is_root(arrival: &Arrival) -> bool
     }
 }
 
-/// Whether what came at a moment has waited so long at this clock.
+/// Whether what came at a moment has waited for `decision_wait` at this clock.
 fn has_waited(decision_wait: Moment, clock: Moment, moment: Moment) -> bool
     ensures { result ≡ nat_le (moment + decision_wait) clock }
 {

@@ -4,7 +4,7 @@ use otlp_types::{Item, Span};
 use shard_core::{Decided, Shard, Taken};
 use span_ids::Moment;
 
-/// So long lies between two tellings of what a shard holds at least, in milliseconds.
+/// The least time between two tellings of what a shard holds, in milliseconds.
 const PAUSE: u64 = 500;
 
 /// Whether a shard may take memory for spans.

@@ -51,7 +51,7 @@ fn shares_of(
     Ok(list)
 }
 
-/// A part, one of so many, within its share of the total in spans per second.
+/// A part, one of `count`, within its share of the total in spans per second.
 fn within_share(
     alloc: Global,
     total: u64,
