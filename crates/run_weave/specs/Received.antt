@@ -66,7 +66,7 @@ module _ {V D : Type 0} (allowed_of : V → Allowed) (driver_of : V → D) (asks
 
 -- ---- what each way of serving keeps
 
--- of these spans, of which so many found a queue full, a lane counts so many at each count
+-- what a lane counts at each count of these spans, of which `refused` found a queue full
 abbrev pub lane_gains : List Arrival → (refused : ℕ) → Count → ℕ
 lane_gains received refused Received = length received
 lane_gains received refused Handed = 0
@@ -78,7 +78,7 @@ lane_gains received refused (Dropped NotSampled) = 0
 lane_gains received refused (Dropped LateNotSampled) = 0
 lane_gains received refused (Dropped ExporterDown) = 0
 
--- so many were counted at each count, or with them a number passes
+-- what was gained was counted at each count, or with it a number passes
 abbrev pub Tallied : (is_full : Bool) → (gained : Count → ℕ) → List ℕ → Type 0
 Tallied true gained counted = Passes gained zeros
 Tallied false gained counted = Gains gained zeros counted

@@ -109,8 +109,8 @@ abbrev pub AreRounds : (capacity queues senders : ℕ) → List Round → Type 0
 AreRounds capacity queues senders [] = Unit {0}
 AreRounds capacity queues senders (round ∷ earlier) = IsRound capacity queues senders (taken_by earlier) round × AreRounds capacity queues senders earlier
 
--- What was popped of so many queues, by these calls and those before, was taken in rounds: no tick was taken before a
--- call that came behind its pop had found each other queue empty, or as many items were popped of it since as it may
+-- What was popped from the queues, by these calls and those before, was taken in rounds: no tick was taken before a
+-- call that came behind its pop had found each other queue empty, or as many items were popped from it since as it may
 -- hold, unless every sender had ended with the item behind the tick.
 pub record TicksWait (capacity queues senders : ℕ) (popped : List (ℕ × Entry)) (calls : List Call) : Type 0 where
   pub rounds : List Round
