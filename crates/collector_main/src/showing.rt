@@ -28,7 +28,7 @@ fn say_refusal<E: Write + Drop>(errors: E, outcome: &Outcome) {
     }
 }
 
-/// What is shown of what was read of a body.
+/// What is shown of what was read from a body.
 fn shown_of(alloc: Global, body: Result<Vec<u8>, BodyFault>) -> Outcome
     ensures { BodyShows (body_of (λ v. v.items) body) result }
 {

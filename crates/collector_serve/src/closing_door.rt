@@ -97,7 +97,7 @@ impl ClosingDoor {
         listener: &TcpListener,
         charge: Arc<Charge, Global>,
     ) -> io::Result<Self> {
-        // The lanes' listener, of which they take nobody any more while traces are decided and sent (D-177).
+        // The lanes' listener, from which they take nobody any more while traces are decided and sent (D-177).
         let listener = listener.try_clone()?;
         let own = *rt;
         let thread = thread::spawn(rt, move || stand(&own, alloc, &listener, &charge))?;
