@@ -19,8 +19,13 @@ HEAD = "# name: what it stands on, lowest first in each section and over all"
 
 
 def rows_of(text):
-    """The lines of such a file, each as a name with what stands behind the colon, or as a comment with None."""
+    """The lines of such a file, each as what stands in front of the colon (a name, and how it is built) and behind it, or as a comment with None."""
     return [(line, None) if line.startswith("#") else tuple(line.split(":", 1)) for line in text.splitlines() if line]
+
+
+def by_name(text):
+    """What stands behind the colon, by the names of such a file."""
+    return {head.split()[0]: rest for head, rest in rows_of(text) if rest is not None}
 
 
 class Uses:
@@ -59,11 +64,12 @@ def is_ours(name):
 def written(rows, uses, before):
     """The text of crates.txt. A section of the kit's crates alone isn't written."""
     lines, section = [HEAD], []
-    for name, rest in rows:
+    for head, rest in rows:
+        name = head.split()[0]
         if rest is None:
-            section = [name]
+            section = [head]
         elif is_ours(name):
-            lines += [*section, " ".join([f"{name}:", *in_places(with_those_below(uses[name].all, uses), before.get(name, []))])]
+            lines += [*section, " ".join([f"{head}:", *in_places(with_those_below(uses[name].all, uses), before.get(name, []))])]
             section = []
     return "\n".join(lines) + "\n"
 
@@ -81,10 +87,9 @@ def named_by(name, known):
     return (found - modules) & known - {name}
 
 
-def differences(rows, uses, now, wanted):
+def differences(uses, now, wanted):
     """A line for each difference: of the two files, and of uses.txt and what the crates' files name."""
-    before = {name: rest.split() for name, rest in rows_of(now) if rest is not None}
-    after = {name: rest.split() for name, rest in rows_of(wanted) if rest is not None}
+    before, after = ({name: rest.split() for name, rest in by_name(it).items()} for it in (now, wanted))
     yield from (f"{it} has a line in {'crates.txt' if it in before else 'uses.txt'} alone" for it in sorted(set(before) ^ set(after)))
     for name in sorted(set(before) & set(after)):
         yield from (f"crates.txt: {name} has {it}, and uses.txt gives it none" for it in before[name] if it not in after[name])
@@ -92,19 +97,18 @@ def differences(rows, uses, now, wanted):
     if now != wanted:
         yield "crates.txt isn't what tools/uses.py writes from uses.txt"
     known = {it.name for it in (TOP / "crates").iterdir()} | set(uses) | {it for one in uses.values() for it in one.all}
-    for name in (it for it, rest in rows if rest is not None and is_ours(it)):
+    for name in filter(is_ours, uses):
         named, told = named_by(name, known), set(uses[name].all)
         yield from (f"uses.txt: {name} hasn't {it}, which its files name" for it in sorted(named - told | named & uses[name].unnamed))
         yield from (f"uses.txt: {name} has {it}, which no file of it names" for it in sorted(told - named - uses[name].unnamed))
 
 
 def main():
-    rows = rows_of((TOP / "uses.txt").read_text("utf-8"))
-    uses = {name: Uses(rest) for name, rest in rows if rest is not None}
-    now = (TOP / "crates.txt").read_text("utf-8")
-    wanted = written(rows, uses, {name: rest.split() for name, rest in rows_of(now) if rest is not None})
+    text, now = ((TOP / it).read_text("utf-8") for it in ("uses.txt", "crates.txt"))
+    uses = {name: Uses(rest) for name, rest in by_name(text).items()}
+    wanted = written(rows_of(text), uses, {name: rest.split() for name, rest in by_name(now).items()})
     if "--check" in sys.argv[1:]:
-        found = list(differences(rows, uses, now, wanted))
+        found = list(differences(uses, now, wanted))
         print("\n".join(found), end="\n" if found else "")
         return 1 if found else 0
     (TOP / "crates.txt").write_text(wanted, "utf-8")
