@@ -78,8 +78,7 @@ impl<'s, S: Sink, P: HasStopMark, R: Clock> Sink for StoppingSink<'s, S, P, R> {
             Err(_) => {
                 self.board.fails();
                 if self.stops {
-                    // At the very write that failed, as a close does it: so what holds of each closed run holds here
-                    // (D-200).
+                    // At the very write that failed, as at a close: what holds of every closed run holds here (D-200).
                     self.stop.set();
                 }
             }

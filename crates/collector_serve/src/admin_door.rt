@@ -131,7 +131,7 @@ pub fn socket_path(address: &str) -> Option<&str> {
 /// Listens at a socket's file that only its owner may use. It takes the place of one that is left of a collector which
 /// has ended; one at which there is still somebody is left alone.
 fn bind_socket<R: Net + Files>(rt: &R, alloc: Global, path: &str) -> io::Result<UnixListener> {
-    // One that is in use isn't replaced (D-194).
+    // A socket's file at which somebody answers isn't replaced (D-194).
     if UnixStream::connect(rt, path).is_ok() {
         return Err(io::ErrorKind::AddrInUse.into());
     }

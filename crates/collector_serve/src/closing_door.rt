@@ -125,7 +125,7 @@ fn stand<R: Wait + Clock>(rt: &R, alloc: Global, listener: &TcpListener, charge:
     let mut clients = Vec::new(alloc);
     let mut last_looks: u32 = 0;
     for _ in rt.forever() {
-        // Asked before clients are taken, so that who came before the end is answered.
+        // Asked before clients are taken, so that those who came before the end are answered.
         let is_over = charge.over.is_set();
         if !is_over && !charge.stop.is_set() {
             thread::sleep(rt, Duration::from_millis(PAUSE));

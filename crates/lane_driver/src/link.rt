@@ -193,8 +193,7 @@ impl ConnectionSocket {
         if self.stream.shutdown(Shutdown::Write).is_err() {
             return SocketStep::Over;
         }
-        // A socket that is closed with bytes unread is reset, and the answer may be lost by that (RFC 9112, section
-        // 9.6).
+        // A socket closed with bytes unread is reset, and the answer may be lost by that (RFC 9112, section 9.6).
         self.phase = Phase::Lingering { left: LINGER_BYTES };
         self.since = moment;
         SocketStep::GoesOn

@@ -92,7 +92,7 @@ impl<'l> Readiness<'l> {
 
     /// From now on it is told when the connection at this place may be read or written. `false`: that can't be.
     pub fn watch(&self, stream: &mut TcpStream, place: usize) -> bool {
-        // Interest::WRITABLE; | For both at once, so that nothing is registered anew when an answer has to wait.
+        // For both at once, so that nothing is registered anew when an answer has to wait.
         let both = Interest::READABLE | Interest::WRITABLE;
         self.poll
             .registry()

@@ -47,7 +47,7 @@ impl Traffic {
 
     /// This number of bytes came.
     pub fn came(&self, bytes: usize) {
-        // They are only told, and nothing is decided by them, so they need no order among each other.
+        // These numbers are only told, and nothing is decided by them, so they need no order among each other.
         self.received.fetch_add(bytes as u64, Ordering::Relaxed);
     }
 

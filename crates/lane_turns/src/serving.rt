@@ -162,7 +162,7 @@ fn is_over(next: Next, table: &Slab<Exchange>) -> bool
     ensures over { IsTrue result → (next ≡ End) × ((key : ℕ) → get table.now key ≡ None) }
     ensures goes_on { result ≡ false → next ≡ End → (key : ℕ) × ContainsKey table.now key }
 {
-    // A driver that says `End` while one is open is told `Nothing`, and asked again.
+    // A driver that says `End` while a connection is open is told `Nothing`, and asked again.
     matches!(next, Next::End) && table.is_empty()
 }
 

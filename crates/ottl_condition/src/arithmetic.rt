@@ -34,7 +34,7 @@ fn of_floats<'a, 'r>(binary: Binary, left: f64, right: f64) -> Result<Value<'a, 
         Binary::Subtract => Ok(Value::Float(left - right)),
         Binary::Multiply => Ok(Value::Float(left * right)),
         _ => {
-            // An error of floats, too (D-307).
+            // A quotient by 0 is an error of floats, too (D-307).
             if right == 0.0 {
                 Err(EvalError::DividedByZero)
             } else {

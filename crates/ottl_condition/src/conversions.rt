@@ -37,7 +37,7 @@ pub(crate) fn as_int<'a, 'r>(value: &Value<'_, '_>) -> Value<'a, 'r>
 {
     match value {
         Value::Int(number) => Value::Int(*number),
-        // Of one that doesn't fit the nearest, and 0 of a NaN, where Go's answer depends on the machine (D-337).
+        // The nearest number where it doesn't fit, and 0 of a NaN, where Go's answer depends on the machine (D-337).
         Value::Float(number) => Value::Int(saturating_f64_to_i64(*number)),
         Value::Bool(truth) => Value::Int(number_of(*truth)),
         Value::Text(text) => int_or_nil(text.as_bytes()),

@@ -33,7 +33,7 @@ fn kind_text(kind: i32) -> &'static str
         3 => "Client",
         4 => "Producer",
         5 => "Consumer",
-        // So of a number that isn't known (D-300).
+        // A number that isn't known has an empty text (D-300).
         _ => "",
     }
 }
@@ -202,7 +202,7 @@ fn outer_value<'a, 'r>(root: Root, sent: &'a Record) -> Value<'a, 'r>
 fn look_up<'a, 'r>(key: &str, pairs: &'a [KeyValue]) -> Option<Value<'a, 'r>>
     ensures { option_map value_of result ≡ spec.look_up key.now pairs.now }
 {
-    // Of two attributes with one key the first (D-309).
+    // Of two attributes with one key the first counts (D-309).
     match pair_of(key, pairs) {
         Some(pair) => Some(Value::of_attribute(&pair.value)),
         None => None,

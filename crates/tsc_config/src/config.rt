@@ -190,7 +190,7 @@ fn config_of(alloc: Global, table: &Table) -> Result<Config, ConfigFault>
         Ok(policies) => policies,
         Err(fault) => return Err(ConfigFault::Policy(fault)),
     };
-    // Behind all other faults of the text (D-211).
+    // Last, so that all other faults of the text go first (D-211).
     check_expressions(alloc, &policies)?;
     match given_by(alloc, table, policies) {
         Ok(config) => Ok(config),
