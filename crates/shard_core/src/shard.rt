@@ -204,7 +204,7 @@ impl Shard {
         let ids = ids_of(&arrival).unwrap();
         // The other id is read for the proof: the borrow checker's part must see each type that a lent span has.
         let (trace, _span) = (ids.trace, ids.span);
-        // Looked up here, and again by `append`: what becomes of it is the shard's rule, its place the buffer's (D-285).
+        // Looked up here and again by `append`: what becomes of it is the shard's rule, its place the buffer's (D-285).
         match self.buffer.find(trace) {
             Some(State::Undecided) => {
                 appended(append(&mut self.buffer, arrival, self.clock, has_memory))

@@ -250,7 +250,7 @@ pub fn number_at(table: &Table, key: NumberKey) -> u64
     ensures lowest { (number_row key).lowest ≤ result }
     ensures greatest { result ≤ (number_row key).greatest }
 {
-    // Out of bounds it reads as its default: so the bounds hold of every configuration. Such a table is refused (D-214).
+    // Out of bounds it reads as its default, so the bounds hold of every configuration; the table is refused (D-214).
     let (name, default, lowest, greatest) = key.row();
     match member(table, name) {
         Some(Value::Integer(number)) if lowest <= *number && *number <= greatest => *number as u64,
