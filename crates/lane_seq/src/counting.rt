@@ -21,6 +21,7 @@ pub fn count_reply<C: Counter>(counts: &mut C, reply: &Reply) -> bool
             invalid,
             full,
         } => {
+            // Where a later one is refused the earlier ones stay: a `Counter` has no way back (D-128).
             let Ok(()) = counts.add(Count::Received, *spans) else {
                 return false;
             };

@@ -24,7 +24,7 @@ fn capped(n: usize) -> usize
     if n > TOO_MANY { TOO_MANY } else { n }
 }
 
-/// So many levels more.
+/// These levels, and `by` more.
 fn more(levels: usize, by: usize) -> usize
     requires { (levels ≤ 201) × (by ≤ 2) }
     ensures small { result ≤ 201 }
@@ -124,6 +124,7 @@ fn saves_levels(sparing: bool, left: &Expression, size: Size, right: usize) -> b
     ensures { (s : spec.Size) (n : ℕ) → IsSizeOf s size.levels size.row → IsCapped right n → s.levels ≤ 200
         → result ≡ spec.saves_levels sparing (term_of left.now) s n }
 {
+    // Operators in a row count as levels, so parentheses may save some (D-357).
     let is_long = size.levels < size.row + 2 + right;
     if sparing && is_row(left) {
         is_long
@@ -163,7 +164,7 @@ fn operator_size(sparing: bool, binary: Binary, left: &Expression, size: Size, r
     joined(parentheses, size, right)
 }
 
-/// How tight what a function takes has to bind.
+/// The least tightness of what a function takes.
 pub(crate) const ARGUMENT: u8 = 4;
 
 /// How tight what it takes has to bind.

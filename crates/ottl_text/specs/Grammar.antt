@@ -33,7 +33,7 @@ use Rattle.ottl_text.specs.Names.{enumeration_of, unary_of, binary_of, case_name
 use Rattle.ottl_text.specs.Syntax.{Term, literal, path, is_root_span, unary, binary, is_match, substring, cased, concat, is_condition, is_value, suits}
 use Rattle.ottl_text.specs.Gives.{Read, ◌>>=◌}
 
--- so many levels may nest, or operators stand in a row
+-- the most levels that may nest, and the most operators in a row
 abbrev pub most_levels : ℕ
 most_levels = 200
 

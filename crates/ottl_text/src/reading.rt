@@ -97,7 +97,7 @@ fn operators(
     }
 }
 
-/// An operand, whose parts nest at most so many levels, and what is left.
+/// An operand, whose parts nest at most `levels` deep, and what is left.
 #[cycle(expression)]
 #[tactic(auto, unfolding(crate::specs::Grammar::operand))]
 fn operand(
@@ -200,6 +200,7 @@ fn named_at<'a>(
     if let Some(binary) = binary_of(word) {
         return binary_at(alloc, behind, context, levels, binary, rest);
     }
+    // A number like any other, so it stands in sums and products, too (D-342).
     if let Some(number) = enumeration_of(word) {
         return Ok((Expression::Literal(Literal::Int(number)), rest));
     }
@@ -221,6 +222,7 @@ fn not_at(
 ) -> Result<(Expression, &[u8]), ParseError>
     ensures { GivesAs (λ found. (term_of found.0, found.1.now)) result (spec.not_at behind (spec.expression behind context levels) bytes.now) }
 {
+    // Comparisons bind tighter than `not`, and another `not` may stand behind it (D-292).
     let (of, rest) = expression(alloc, behind, context, levels, 3, bytes)?;
     if !of.is_condition() {
         return Err(refused(behind, FaultKind::NotACondition, bytes));

@@ -91,6 +91,7 @@ impl<S: Sink> Output<S> {
         ensures counted { self.new.1 ≡ self.old.1 }
         ensures goes_on { GoesOn self.old self.new }
     {
+        // A write that failed is seen by `is_down`.
         let _ = self.exporter.note(line);
     }
 

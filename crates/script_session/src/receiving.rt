@@ -31,6 +31,7 @@ pub(crate) fn submit(
         return (Reply::Busy, queues);
     };
     let mut after = conn;
+    // One set of queues for all lanes: between two lines each queue is empty (D-234).
     let mut lane = Lane::new(conn.key.lane, queues).keeping_doubles(keeps_doubles);
     let reply = lane.submit(alloc, &mut after, Encoding::Json, body, moment);
     if is_received(&reply) {

@@ -91,6 +91,7 @@ impl<S: Sink> Session<S> {
         ensures plays { PlaysOne self.old (receive number moment body.now) self.new }
         ensures leaves { Leaves self.old (receive number moment body.now) self.new }
     {
+        // A lane owns its ports: the queues go to it, and come back with the reply (D-234).
         let queues = mem::replace(&mut self.queues, Vec::new(self.alloc));
         let (reply, queues) = submit(
             self.alloc,
@@ -178,6 +179,7 @@ impl<S: Sink> Machine for Session<S> {
 
     fn play(&mut self, command: ScriptCommand<'_>) -> bool {
         self.obey(command);
+        // Behind a write that failed only a close is played (D-239).
         !self.output.is_down()
     }
 }

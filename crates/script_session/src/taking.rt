@@ -35,6 +35,7 @@ pub fn take_item<S: Sink>(
     ensures settings { settings shard.new ≡ settings shard.old }
     ensures goes_on { GoesOn output.old output.new }
 {
+    // Nothing limits memory here but the allocator itself.
     let taken = shard.take(item, true);
     settle_taken(&(), taken, output);
     decide_all(shard, limiter, output);
@@ -180,6 +181,7 @@ pub fn tell_each<S: Sink>(
     ensures length { length shards.new ≡ length shards.old }
     ensures goes_on { GoesOn output.old output.new }
 {
+    // In turn over one limiter, so shard 0 is always asked first (D-056).
     tell_from(shards, 0, limiter, output, signal);
 }
 

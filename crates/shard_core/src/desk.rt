@@ -9,7 +9,8 @@ use crate::answer::{Decided, Taken};
 use otlp_types::Arrival;
 use span_ids::Reason;
 
-/// Where what a shard answers goes. What it lends is what it needs of its caller to pass a span on.
+/// Where what a shard answers goes. A desk may need something lent to pass a span on: that of a thread waits by the
+/// runtime, that of a script needs nothing (D-284).
 pub trait Desk<Lent> {
     /// These spans went on, in order, and so many were counted under each reason.
     ghost takes: { Self → List ArrivalOf → (ReasonOf → ℕ) → Self → Type 0 };

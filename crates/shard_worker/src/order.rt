@@ -27,6 +27,7 @@ use std::time::Clock;
 pub fn is_taken(item: &Item) -> bool
     ensures { result ≡ has_ids item.now }
 {
+    // Nothing is known of what comes out of a queue before its ends are joined, so ids are looked at here (D-144).
     match item {
         Item::Span(arrival) => arrival.rec.span.get().ids.is_some(),
         Item::Tick(_) | Item::End(_) => true,
@@ -107,11 +108,13 @@ fn take_tick<
     ensures same { (turns.new.number ≡ turns.old.number) × (turns.new.desk.sender.queue ≡ turns.old.desk.sender.queue) }
     ensures same_queues { queues receiver.new.ends ≡ queues receiver.old.ends }
 {
+    // The tick is held back and not left in its queue, since only a pop tells that something waits there (D-140).
     let place = receiver.next_place() - 1;
     for other in 0..receiver.count() {
         if other == place {
             continue;
         }
+        // So what a lane pushed before the tick is decided with it. Nothing is taken behind the last End (D-140).
         if let Some(last) = drain(rt, gate, turns, receiver, other) {
             turns.turn(rt, gate, Item::Tick(moment));
             return turns.turn(rt, gate, last);
@@ -157,6 +160,7 @@ fn drain<
     ensures same { (turns.new.number ≡ turns.old.number) × (turns.new.desk.sender.queue ≡ turns.old.desk.sender.queue) }
     ensures same_queues { queues receiver.new.ends ≡ queues receiver.old.ends }
 {
+    // No more than the queue may hold, so that one who goes on pushing keeps nobody waiting (D-140).
     for _ in 0..receiver.capacity() {
         let Some(item) = receiver.pop_at(rt, place) else {
             return None;
