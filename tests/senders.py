@@ -34,10 +34,13 @@ HEADS = [
     ("the type in other letters", {"Content-Type": "Application/JSON"}, 200, "{}"),  # RFC 9110, 8.3.1: case doesn't matter
     ("field names in small letters", {"Host": None, "Content-Type": None, "host": "collector", "content-type": "application/json"}, 200, "{}"),  # RFC 9110, 5.1
     ("no compression, named so", {"Content-Encoding": "identity"}, 200, "{}"),
+    ("no compression, and an empty element", {"Content-Encoding": "identity,"}, 200, "{}"),  # RFC 9110, 5.6.1: empty elements are ignored
     ("gzip", {"Content-Encoding": "gzip"}, 415, '{"message":"unsupported content encoding: gzip is off (accept_gzip)"}'),
     ("protobuf", {"Content-Type": "application/x-protobuf"}, 415, '{"message":"unsupported media type: application/json is wanted"}'),
     ("no type", {"Content-Type": None}, 415, '{"message":"unsupported media type: application/json is wanted"}'),
     ("no host", {"Host": None}, 400, '{"message":"bad request"}'),  # RFC 9112, 3.2
+    ("a user in the host", {"Host": "user@collector"}, 400, '{"message":"bad request"}'),  # RFC 9112, 3.2: an invalid value
+    ("a path in the host", {"Host": "collector/v1"}, 400, '{"message":"bad request"}'),
 ]
 
 # (name, the request line, the status, the answer's body, or None where an answer has none)
@@ -80,6 +83,7 @@ PACKED = [
     ("plain", "identity", ONE, 200, "{}"),
     ("gzip", "gzip", gzip.compress(ONE), 200, "{}"),  # RFC 9110, 8.4.1.3
     ("x-gzip in other letters", "X-GZip", gzip.compress(ONE, 1), 200, "{}"),  # RFC 9110, 8.4.1.3: the same as gzip
+    ("gzip beside empty elements", ", gzip,", gzip.compress(ONE), 200, "{}"),  # RFC 9110, 5.6.1
     ("gzip in two members", "gzip", gzip.compress(ONE[:40]) + gzip.compress(ONE[40:]), 200, "{}"),  # RFC 1952, 2.2
     ("gzip of no JSON", "gzip", gzip.compress(b""), 400, '{"message":"not JSON"}'),
     ("a plain body that says gzip", "gzip", ONE, 400, '{"message":"not gzip"}'),

@@ -13,8 +13,9 @@ use Rattle.http_text.specs.declared.request.RequestRefusal.TheVariants.{BadReque
 use Rattle.http_text.specs.declared.request.Framing.TheVariants.{Length, Chunked}
 use Rattle.http_text.specs.Body.{BySize, waits, refuses}
 use Rattle.http_text.specs.Lines.{head_len, trailer_len, line_len, blank_len}
-use Rattle.http_text.specs.Fields.{Header, framing, is_plain, is_packed, is_taken, is_own_host, is_own_origin, is_own_site}
+use Rattle.http_text.specs.Fields.{Header, coding_of, elements, framing, is_plain, is_packed, is_taken, is_own_host, is_own_origin, is_own_site}
 use Rattle.http_text.specs.Head.{fits, posted, routed, verdict_by, field_lines}
+use Rattle.http_text.specs.Host.{is_host}
 use Rattle.httparse.specs.Grammar.{trim_ows}
 use Rattle.httparse.specs.Ascii.{crlf_bytes}
 
@@ -160,6 +161,21 @@ foreign_hosts : map is_own_host
     ≡ false ∷ false ∷ false ∷ false ∷ false ∷ false ∷ []
 foreign_hosts = refl
 
+-- what may be a `Host`: a name, an address, no host at all, and any port or none
+hosts : map is_host
+    (codes "x" ∷ codes "Collector.example:4318" ∷ codes "10.1.2.3" ∷ codes "a_b-c~" ∷ codes "a%2Fb%c3" ∷ codes "[::1]" ∷ codes "[fe80::1.2.3.4]:4318" ∷ [] ∷ codes ":80" ∷ codes "x:" ∷ codes "a,b" ∷ [])
+    ≡ true ∷ true ∷ true ∷ true ∷ true ∷ true ∷ true ∷ true ∷ true ∷ true ∷ true ∷ []
+hosts = refl
+
+no_hosts : map is_host
+    (codes "a b" ∷ codes "a/b" ∷ codes "user@x" ∷ codes "x:4a" ∷ codes "x:1:2" ∷ codes "a%2" ∷ codes "a%2g" ∷ codes "[::1" ∷ codes "[]" ∷ codes "[::1]4318" ∷ codes "[a/b]" ∷ codes "::1" ∷ (195 ∷ 188 ∷ []) ∷ codes "x?" ∷ codes "\"x\"" ∷ [])
+    ≡ false ∷ false ∷ false ∷ false ∷ false ∷ false ∷ false ∷ false ∷ false ∷ false ∷ false ∷ false ∷ false ∷ false ∷ false ∷ []
+no_hosts = refl
+
+-- a request whose `Host` can't be one is refused whatever it asks for
+bad_host : verdict_by by_default (codes "POST") (codes "/close") 1 ((codes "Host", codes "x/y") ∷ []) ≡ Refused BadRequest false
+bad_host = refl
+
 -- an `Origin` is the host's where it is `http://` and just the host, in any letters
 origins : map (is_own_origin (codes "box:4319"))
     (codes "http://box:4319" ∷ codes "HTTP://Box:4319" ∷ codes "https://box:4319" ∷ codes "http://box" ∷ codes "http://box:43191" ∷ codes "http://other:4319" ∷ codes "null" ∷ codes "http:/" ∷ [] ∷ codes "box:4319" ∷ [])
@@ -236,22 +252,44 @@ unfolding json_field trim_ows
 json_that_closes = refl
 
 identity_is_plain : is_plain ((codes "content-encoding", codes "Identity") ∷ []) ≡ true
+unfolding trim_ows
 identity_is_plain = refl
+
+-- empty elements of a list are passed over, and so is white space around elements
+lists : elements (codes "a,b") ∷ elements (codes ",, a b ,\t,c,") ∷ elements [] ∷ elements (codes " , ,") ∷ []
+    ≡ (codes "a" ∷ codes "b" ∷ []) ∷ (codes "a b" ∷ codes "c" ∷ []) ∷ [] ∷ [] ∷ []
+unfolding trim_ows
+lists = refl
+
+-- the coding that a field says: a list of none, or of more, says none that is known
+codings_said : map coding_of (codes "gzip" ∷ codes "gzip," ∷ codes " , ,x-gzip\t, " ∷ [] ∷ codes ", ," ∷ codes "identity, gzip" ∷ codes "br,,br" ∷ [])
+    ≡ codes "gzip" ∷ codes "gzip" ∷ codes "x-gzip" ∷ [] ∷ codes ", ," ∷ codes "identity, gzip" ∷ codes "br,,br" ∷ []
+unfolding trim_ows
+codings_said = refl
 
 -- how fields frame a body: a length beyond the limit stands for the first one there
 framings : framing 4194304 [] ∷ framing 4194304 (length_field ∷ [])
     ∷ framing 4194304 ((codes "content-length", codes "0099999999") ∷ [])
     ∷ framing 4194304 ((codes "transfer-encoding", codes "Chunked") ∷ []) ∷ []
     ≡ Some (Length 0) ∷ Some (Length 7) ∷ Some (Length 4194305) ∷ Some Chunked ∷ []
-unfolding length_field
+unfolding length_field trim_ows
 framings = refl
+
+framings_of_lists : framing 4194304 ((codes "Transfer-Encoding", codes ",chunked ,,") ∷ [])
+    ∷ framing 4194304 ((codes "Transfer-Encoding", codes "chunked,chunked") ∷ [])
+    ∷ framing 4194304 ((codes "Transfer-Encoding", codes "gzip,,chunked") ∷ [])
+    ∷ framing 4194304 ((codes "Transfer-Encoding", codes ", ,") ∷ [])
+    ∷ framing 4194304 ((codes "Transfer-Encoding", codes "chunked,") ∷ (codes "Transfer-Encoding", []) ∷ []) ∷ []
+    ≡ Some Chunked ∷ None ∷ None ∷ None ∷ None ∷ []
+unfolding trim_ows
+framings_of_lists = refl
 
 no_framings : framing 4194304 (length_field ∷ length_field ∷ [])
     ∷ framing 4194304 (length_field ∷ (codes "Transfer-Encoding", codes "chunked") ∷ [])
     ∷ framing 4194304 ((codes "Content-Length", codes "+7") ∷ []) ∷ framing 4194304 ((codes "Content-Length", []) ∷ [])
     ∷ framing 4194304 ((codes "Transfer-Encoding", codes "gzip") ∷ []) ∷ []
     ≡ None ∷ None ∷ None ∷ None ∷ None ∷ []
-unfolding length_field
+unfolding length_field trim_ows
 no_framings = refl
 
 -- where 3 bytes of at most 7 have come in chunks: a chunk of 4 is the last that fits
@@ -296,8 +334,15 @@ packings : is_packed [] ∷ is_packed (gzip_field ∷ []) ∷ is_packed (coded (
     ∷ is_packed (coded (codes "deflate") ∷ []) ∷ is_packed (coded (codes "gzip, gzip") ∷ [])
     ∷ is_packed ((codes "Accept-Encoding", codes "gzip") ∷ []) ∷ []
     ≡ false ∷ true ∷ true ∷ false ∷ true ∷ false ∷ false ∷ false ∷ false ∷ []
-unfolding gzip_field coded
+unfolding gzip_field coded trim_ows
 packings = refl
+
+packings_by_lists : is_packed (coded (codes ",gzip") ∷ []) ∷ is_packed (coded (codes "identity,") ∷ coded (codes "gzip, ,") ∷ [])
+    ∷ is_packed (coded (codes "gzip,gzip") ∷ []) ∷ is_packed (coded (codes "identity,gzip") ∷ [])
+    ∷ is_plain (coded (codes ", identity") ∷ []) ∷ is_plain (coded (codes "identity,identity") ∷ []) ∷ is_plain (coded (codes ",") ∷ []) ∷ []
+    ≡ true ∷ true ∷ false ∷ false ∷ true ∷ false ∷ false ∷ []
+unfolding coded trim_ows
+packings_by_lists = refl
 
 takings : is_taken with_gzip (gzip_field ∷ []) ∷ is_taken by_default (gzip_field ∷ [])
     ∷ is_taken with_gzip (coded (codes "identity") ∷ [])
@@ -305,7 +350,7 @@ takings : is_taken with_gzip (gzip_field ∷ []) ∷ is_taken by_default (gzip_f
     ∷ is_taken with_gzip (gzip_field ∷ coded (codes "x-gzip") ∷ [])
     ∷ is_taken with_gzip [] ∷ is_taken by_default [] ∷ []
     ≡ true ∷ false ∷ true ∷ true ∷ false ∷ true ∷ true ∷ []
-unfolding gzip_field coded
+unfolding gzip_field coded trim_ows
 takings = refl
 
 -- why a coding isn't taken: gzip where it is off, and any other; another type goes before a coding

@@ -1,12 +1,12 @@
 -- The words of a comma list.
--- They serve the clause of `has_word`.
+-- They serve the clauses of `has_word` and `find_elements`.
 use Rattle.std.proofs.Common.{◌≡◌, suc, ◌+◌, [], ◌∷◌, true, false, take, drop, ℕ, List, Option, Some, None, Bool, cond, refl, ap, sym, ◌∙◌, arith}
-use Rattle.std.specs.Prelude.{position, ◌==◌, ◌||◌}
+use Rattle.std.specs.Prelude.{position, ◌==◌, ◌||◌, filter, map, nat_lt, length, ◌++◌}
 use Rattle.std.specs.List.{list_any}
 use Rattle.std.specs.Option.{option_map}
 use Rattle.std.specs.Str.{str_eq_ignore_ascii_case}
 use Rattle.httparse.specs.Grammar.{trim_ows}
-use Rattle.http_text.specs.Fields.{split_commas, cons_first, has_word}
+use Rattle.http_text.specs.Fields.{split_commas, cons_first, has_word, elements}
 use Rattle.http_text.proofs.FieldLemmas.{position_cons}
 
 abbrev is_comma : ℕ → Bool
@@ -58,3 +58,24 @@ word_last word xs found e =
 
 abbrev pub is_word_of : List ℕ → List ℕ → Bool
 is_word_of word trimmed = str_eq_ignore_ascii_case trimmed word
+
+-- a trimmed word as an element: none where it is empty
+abbrev pub one_trimmed : List ℕ → List (List ℕ)
+one_trimmed w = filter (λ v. nat_lt 0 (length v)) (w ∷ [])
+
+abbrev pub one_of : List ℕ → List (List ℕ)
+one_of w = one_trimmed (trim_ows w)
+
+filter_cons : (t : Bool) (w : List ℕ) (ws : List (List ℕ)) → cond t (w ∷ ws) ws ≡ cond t (w ∷ []) [] ++ ws
+filter_cons true w ws = refl
+filter_cons false w ws = refl
+
+-- one element more
+pub elements_more : (xs : List ℕ) (at : ℕ) → position is_comma xs ≡ Some at → elements xs ≡ one_of (take at xs) ++ elements (drop (at + 1) xs)
+elements_more xs at e =
+    ap (λ ws. filter (λ w. nat_lt 0 (length w)) (map trim_ows ws)) (split_at xs ∙ ap (words_at xs) e)
+    ∙ filter_cons (nat_lt 0 (length (trim_ows (take at xs)))) (trim_ows (take at xs)) (elements (drop (at + 1) xs))
+
+-- the last element
+pub elements_last : (xs : List ℕ) → position is_comma xs ≡ None → elements xs ≡ one_of xs
+elements_last xs e = ap (λ ws. filter (λ w. nat_lt 0 (length w)) (map trim_ows ws)) (split_at xs ∙ ap (words_at xs) e)

@@ -25,12 +25,33 @@ values_named name headers = map (λ (h : Header). h.1) (filter (λ (h : Header).
 abbrev pub is_number : List ℕ → Bool
 is_number text = nat_lt 0 (length text) && list_all is_ascii_digit text
 
+-- the words of a comma list
+abbrev pub cons_first : ℕ → List (List ℕ) → List (List ℕ)
+cons_first b [] = (b ∷ []) ∷ []
+cons_first b (word ∷ words) = (b ∷ word) ∷ words
+
+abbrev pub split_commas : List ℕ → List (List ℕ)
+split_commas [] = [] ∷ []
+split_commas (b ∷ bytes) = if b == comma then [] ∷ split_commas bytes else cons_first b (split_commas bytes)
+
+-- the elements of a comma list, where empty ones are passed over (RFC 9110, section 5.6.1.2)
+abbrev pub elements : List ℕ → List (List ℕ)
+elements value = filter (λ w. nat_lt 0 (length w)) (map trim_ows (split_commas value))
+
+-- the coding that a field says: the one element of its list, and a list of none or of more says none that is known
+abbrev pub coding_by : List ℕ → List (List ℕ) → List ℕ
+coding_by value (coding ∷ []) = coding
+coding_by value _ = value
+
+abbrev pub coding_of : List ℕ → List ℕ
+coding_of value = coding_by value (elements value)
+
 -- a length above the limit is refused, so it is taken for the next number above the limit
 -- the framing by the values of `Content-Length` and of `Transfer-Encoding`
 abbrev pub framing_by : (limit : ℕ) → List (List ℕ) → List (List ℕ) → Option Framing
 framing_by limit [] [] = Some (Length 0)
 framing_by limit (text ∷ []) [] = if is_number text then Some (Length (min (digits_value 10 text) (suc limit))) else None
-framing_by limit [] (coding ∷ []) = if str_eq_ignore_ascii_case coding (codes "chunked") then Some Chunked else None
+framing_by limit [] (value ∷ []) = if str_eq_ignore_ascii_case (coding_of value) (codes "chunked") then Some Chunked else None
 framing_by limit _ _ = None
 
 -- how the body is framed, or None where the fields don't say it in one way
@@ -64,14 +85,18 @@ encoding_of allowed headers =
 abbrev pub has : List ℕ → (List ℕ → Bool) → Header → Bool
 has name test h = str_eq_ignore_ascii_case h.0 name && test h.1
 
+-- a coding of the content but `identity`
+abbrev pub is_coded : List ℕ → Bool
+is_coded value = not (str_eq_ignore_ascii_case (coding_of value) (codes "identity"))
+
 -- no coding but `identity`
 abbrev pub is_plain : List Header → Bool
-is_plain headers = not (list_any (has (codes "content-encoding") (λ value. not (str_eq_ignore_ascii_case value (codes "identity")))) headers)
+is_plain headers = not (list_any (has (codes "content-encoding") is_coded) headers)
 
 -- the codings of the content but `identity`, in the order in which they were applied (RFC 9110, section 8.4), by fields
 -- of one coding each
 abbrev pub codings : List Header → List (List ℕ)
-codings headers = map (λ (h : Header). h.1) (filter (has (codes "content-encoding") (λ value. not (str_eq_ignore_ascii_case value (codes "identity")))) headers)
+codings headers = map (λ (h : Header). coding_of h.1) (filter (has (codes "content-encoding") is_coded) headers)
 
 -- `gzip`, or `x-gzip`, which is the same (RFC 9110, section 8.4.1.3)
 abbrev pub is_gzip : List ℕ → Bool
@@ -124,15 +149,7 @@ is_foreign_by (Some host) headers = not (is_own_host host) || list_any (is_forei
 abbrev pub is_foreign : List Header → Bool
 is_foreign headers = is_foreign_by (only (values_named (codes "host") headers)) headers
 
--- the words of a comma list, where a word is trimmed
-abbrev pub cons_first : ℕ → List (List ℕ) → List (List ℕ)
-cons_first b [] = (b ∷ []) ∷ []
-cons_first b (word ∷ words) = (b ∷ word) ∷ words
-
-abbrev pub split_commas : List ℕ → List (List ℕ)
-split_commas [] = [] ∷ []
-split_commas (b ∷ bytes) = if b == comma then [] ∷ split_commas bytes else cons_first b (split_commas bytes)
-
+-- the comma list has this word, where a word is trimmed
 abbrev pub has_word : List ℕ → List ℕ → Bool
 has_word word value = list_any (λ w. str_eq_ignore_ascii_case (trim_ows w) word) (split_commas value)
 

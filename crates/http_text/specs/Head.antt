@@ -13,7 +13,8 @@ use Rattle.http_text.specs.declared.request.RequestRefusal.{RequestRefusal}
 use Rattle.http_text.specs.declared.request.RequestRefusal.TheVariants.{HeadTooLarge, BadRequest, NotFound, MethodNotAllowed, Forbidden, UnsupportedMediaType, NeitherMediaType, GzipIsOff, UnsupportedCoding, BodyTooLarge}
 use Rattle.http_text.specs.declared.request.HeadVerdict.{HeadVerdict}
 use Rattle.http_text.specs.declared.request.HeadVerdict.TheVariants.{Refused, Close, Post as Posted}
-use Rattle.http_text.specs.Fields.{Header, values_named, framing, encoding_of, is_packed, is_taken, says_close, expects_continue, is_foreign}
+use Rattle.http_text.specs.Host.{has_host}
+use Rattle.http_text.specs.Fields.{Header, framing, encoding_of, is_packed, is_taken, says_close, expects_continue, is_foreign}
 use Rattle.http_text.specs.Lines.{head_len, blank_len, cut}
 
 -- the fields of a head's text: the lines between the request line and the empty line at the end
@@ -77,7 +78,7 @@ framed_or_bad allowed method target headers (Some framed) = routed allowed metho
 -- the rows of the table that are about the head, in their order; what is allowed is a setting
 abbrev pub verdict_by : Allowed → List ℕ → List ℕ → ℕ → List Header → HeadVerdict
 verdict_by allowed method target minor headers =
-    if (minor == 1) && (length (values_named (codes "host") headers) == 1)
+    if (minor == 1) && has_host headers
     then framed_or_bad allowed method target headers (framing allowed.body_limit headers)
     else refused method BadRequest
 

@@ -1,6 +1,6 @@
 //! What the fields of a head say (RFC 9110, section 5; RFC 9112, section 6). Names and words are compared without
 //! regard to ASCII case.
-ghost use Rattle.std.specs.Prelude.{◌≡◌, ℕ, ◌+◌, ◌<◌, ◌≤◌, ◌==◌, List, [], length, map, All, IfSome, IfNone, codes, is_some, option_copied, Some, None, if◌then◌else◌, nat_le, nat_lt, Option, IsTrue, reverse, ◌^◌, min, suc, position, not, ◌&&◌, ◌||◌};
+ghost use Rattle.std.specs.Prelude.{◌≡◌, ℕ, ◌+◌, ◌<◌, ◌≤◌, ◌==◌, List, [], length, map, All, IfSome, IfNone, codes, is_some, option_copied, Some, None, if◌then◌else◌, nat_le, nat_lt, Option, IsTrue, reverse, ◌^◌, min, suc, position, not, ◌&&◌, ◌||◌, ◌++◌, ◌∷◌, filter};
 ghost use Rattle.std.specs.List.{before_first, list_any, list_all};
 ghost use Rattle.std.specs.Char.{is_ascii_digit};
 ghost use Rattle.std.specs.Str.{str_eq_ignore_ascii_case};
@@ -8,7 +8,7 @@ ghost use Rattle.std.specs.Str.Parse.{digits_value};
 ghost use Rattle.httparse.specs.Ascii.{comma, semicolon};
 ghost use Rattle.httparse.specs.Grammar.{skip_ows, trim_ows};
 ghost use Rattle.httparse.specs.Spans.{IsHeaderWithin, header_bytes};
-ghost use Rattle.http_text.specs.Fields.{values_named, is_number, framing, media_type, is_of, encoding_of, is_plain, codings, is_gzip, is_packed, is_taken, has, has_word, says_close, expects_continue, host_name, is_bracketed, is_own_host, is_own_origin, is_own_site, is_foreign_field, is_foreign};
+ghost use Rattle.http_text.specs.Fields.{values_named, is_number, framing, media_type, is_of, encoding_of, elements, coding_of, is_coded, is_plain, codings, is_gzip, is_packed, is_taken, has, has_word, says_close, expects_continue, host_name, is_bracketed, is_own_host, is_own_origin, is_own_site, is_foreign_field, is_foreign};
 ghost use Rattle.http_text.specs.Named.{Seen};
 
 use crate::allowed::Allowed;
@@ -143,6 +143,46 @@ pub fn encoding_of(allowed: Allowed, text: &[u8], spans: &[HeaderSpan]) -> Optio
     None
 }
 
+/// The elements that were found, and one more unless it is empty.
+fn with_element<'b>(found: NamedFields<'b>, element: &'b [u8]) -> NamedFields<'b>
+    ensures { (seen : List (List ℕ)) → Seen found.entry seen → Seen result (seen ++ filter (λ w. nat_lt 0 (length w)) (element.now ∷ [])) }
+{
+    if element.is_empty() {
+        return found;
+    }
+    match found {
+        NamedFields::Absent => NamedFields::One(element),
+        _ => NamedFields::Many,
+    }
+}
+
+/// The elements of a comma list, where empty ones are passed over.
+fn find_elements<'b>(value: &'b [u8]) -> NamedFields<'b>
+    ensures { Seen result (elements value.now) }
+{
+    let mut rest = value;
+    let mut found = NamedFields::Absent;
+    'elements: loop {
+        match comma_at(rest) {
+            Some(at) => {
+                found = with_element(found, trim_ows(&rest[..at]));
+                rest = &rest[at + 1..];
+            }
+            None => return with_element(found, trim_ows(rest)),
+        }
+    }
+}
+
+/// The coding that a field says.
+fn coding_of<'b>(value: &'b [u8]) -> &'b [u8]
+    ensures { result.now ≡ coding_of value.now }
+{
+    match find_elements(value) {
+        NamedFields::One(coding) => coding,
+        _ => value,
+    }
+}
+
 /// No `Content-Encoding` but `identity`.
 fn is_plain(text: &[u8], spans: &[HeaderSpan]) -> bool
     requires { All (IsHeaderWithin (length text.now)) spans.now }
@@ -150,8 +190,7 @@ fn is_plain(text: &[u8], spans: &[HeaderSpan]) -> bool
 {
     let mut is_coded = false;
     for span in spans {
-        is_coded |= eq_ignore_case(span.name.of(text), b"content-encoding")
-            && !eq_ignore_case(span.value.of(text), b"identity");
+        is_coded |= is_coding(span.name.of(text), span.value.of(text));
     }
     !is_coded
 }
@@ -165,7 +204,7 @@ fn find_coding<'b>(text: &'b [u8], spans: &[HeaderSpan]) -> NamedFields<'b>
     for span in spans {
         if is_coding(span.name.of(text), span.value.of(text)) {
             found = match found {
-                NamedFields::Absent => NamedFields::One(span.value.of(text)),
+                NamedFields::Absent => NamedFields::One(coding_of(span.value.of(text))),
                 _ => NamedFields::Many,
             };
         }
@@ -175,9 +214,9 @@ fn find_coding<'b>(text: &'b [u8], spans: &[HeaderSpan]) -> NamedFields<'b>
 
 /// The field says a coding that isn't `identity`.
 fn is_coding(name: &[u8], value: &[u8]) -> bool
-    ensures { result ≡ has (codes "content-encoding") (λ value. not (str_eq_ignore_ascii_case value (codes "identity"))) (name.now, value.now) }
+    ensures { result ≡ has (codes "content-encoding") is_coded (name.now, value.now) }
 {
-    eq_ignore_case(name, b"content-encoding") && !eq_ignore_case(value, b"identity")
+    eq_ignore_case(name, b"content-encoding") && !eq_ignore_case(coding_of(value), b"identity")
 }
 
 /// `gzip` or `x-gzip`.
@@ -207,7 +246,7 @@ pub fn is_taken(allowed: Allowed, text: &[u8], spans: &[HeaderSpan]) -> bool
 }
 
 /// The place of the first `:`.
-fn colon_at(host: &[u8]) -> Option<usize>
+pub(crate) fn colon_at(host: &[u8]) -> Option<usize>
     ensures value { result ≡ position (λ b. b == 58) host.now }
     ensures within { IfSome result (λ at. at < length host.now) }
 {
@@ -225,7 +264,7 @@ fn host_name(host: &[u8]) -> &[u8]
 }
 
 /// An address literal of version 6, in brackets.
-fn is_bracketed(host: &[u8]) -> bool
+pub(crate) fn is_bracketed(host: &[u8]) -> bool
     ensures { result ≡ is_bracketed host.now }
 {
     matches!(host, [b'[', ..])
@@ -365,9 +404,8 @@ pub fn framing(limit: u32, text: &[u8], spans: &[HeaderSpan]) -> Option<Framing>
     ) {
         (NamedFields::Absent, NamedFields::Absent) => Some(Framing::Length(0)),
         (NamedFields::One(len), NamedFields::Absent) => body_len(limit, len),
-        (NamedFields::Absent, NamedFields::One(coding)) if eq_ignore_case(coding, b"chunked") => {
-            Some(Framing::Chunked)
-        }
+        (NamedFields::Absent, NamedFields::One(value))
+            if eq_ignore_case(coding_of(value), b"chunked") => { Some(Framing::Chunked) }
         _ => None,
     }
 }

@@ -9,9 +9,9 @@ ghost use Rattle.http_text.specs.Spans.{IsHeadAt};
 
 use crate::allowed::Allowed;
 use crate::fields::{
-    NamedFields, encoding_of, expects_continue, find_named, framing, is_foreign, is_packed,
-    is_taken, says_close,
+    encoding_of, expects_continue, framing, is_foreign, is_packed, is_taken, says_close,
 };
+use crate::host::has_host;
 use crate::lines::blank_len;
 use crate::request::{FIELD_LIMIT, Framing, HeadVerdict, Post, RequestRefusal};
 use httparse::Status;
@@ -94,7 +94,7 @@ fn verdict_by(
     requires { All (IsHeaderWithin (length text.now)) headers.now }
     ensures { result ≡ verdict_by allowed method.now target.now minor (map (header_bytes text.now) headers.now) }
 {
-    if minor != 1 || !matches!(find_named(text, headers, b"host"), NamedFields::One(_)) {
+    if minor != 1 || !has_host(text, headers) {
         return refused(method, RequestRefusal::BadRequest);
     }
     match framing(allowed.body_limit, text, headers) {

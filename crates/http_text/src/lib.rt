@@ -21,6 +21,7 @@ mod allowed;
 mod body;
 mod fields;
 mod head;
+mod host;
 mod lines;
 mod request;
 mod search;

@@ -1,9 +1,8 @@
-use Rattle.std.proofs.Common.{◌≡◌, not, take, map, codes}
+use Rattle.std.proofs.Common.{◌≡◌, take, map, codes}
 use Rattle.std.specs.List.{list_any}
-use Rattle.std.specs.Str.{str_eq_ignore_ascii_case}
 use Rattle.httparse.specs.Spans.{header_bytes}
-use Rattle.http_text.specs.Fields.{has}
+use Rattle.http_text.specs.Fields.{has, is_coded}
 use Rattle.http_text.proofs.fields.is_plain.Given as goal
 
 abbrev pub invariant-loop-span : goal.invariant-loop-span
-invariant-loop-span l = list_any (has (codes "content-encoding") (λ value. not (str_eq_ignore_ascii_case value (codes "identity")))) (map (header_bytes l.text) (take l.span-index l.spans)) ≡ l.is_coded
+invariant-loop-span l = list_any (has (codes "content-encoding") is_coded) (map (header_bytes l.text) (take l.span-index l.spans)) ≡ l.is_coded
