@@ -9,5 +9,6 @@ mod Parts
 mod Floats
 mod FromText
 mod Law
+mod NotDeep
 mod Counted
 pub mod Rows

@@ -26,7 +26,7 @@ use Rattle.ottl_print.proofs.Pieces.{Free}
 use Rattle.ottl_print.proofs.Marks.{text_piece, sign_40, sign_41, sign_44, sign_93, piece_of_operator, operator_piece, operator_again}
 use Rattle.ottl_print.proofs.Literals.{IsWhole, whole_number, int_read, IsFloat, float_read, bytes_read}
 use Rattle.ottl_print.proofs.NamesBack.{name_piece, in_context, root_is_name, unary_is_name, root_word, unary_word, binary_word, is_name}
-use Rattle.ottl_print.proofs.Steps.{Begins, Ends, FineKeys, keys_ok, path_ok, literal_int, literal_float, literal_of_text, literal_bytes, root_span_ok, IsArgument, unary_ok, binary_ok, match_ok, substring_ok, not_ok, inner_ok, operand_ok, expression_ok, stops_ok, goes_on}
+use Rattle.ottl_print.proofs.Steps.{IsShallow, Begins, Ends, FineKeys, keys_ok, path_ok, literal_int, literal_float, literal_of_text, literal_bytes, root_span_ok, IsArgument, unary_ok, binary_ok, match_ok, substring_ok, not_ok, inner_ok, operand_ok, expression_ok, stops_ok, goes_on}
 
 -- ---- what ends an expression
 is_some_binary : Option Binary → Bool
@@ -248,7 +248,7 @@ abbrev mutual
   Fine c (path p) = (in_context c p.root ≡ true) × ((takes_keys p.root || (length p.keys == 0)) ≡ true) × FineKeys p.keys
   Fine c is_root_span = Unit {0}
   Fine c (unary u x) = (suits_one u x ≡ true) × Fine c x
-  Fine c (binary b x y) = (suits b x ≡ true) × (suits b y ≡ true) × Fine c x × Fine c y
+  Fine c (binary b x y) = (suits b x ≡ true) × (suits b y ≡ true) × Fine c x × Fine c y × (is_operator b ≡ true → IsShallow b x y)
   Fine c (is_match x pattern) = (is_value x ≡ true) × (in_utf8 pattern ≡ Ok pattern) × Fine c x
   Fine c (substring x y z) = (is_value x ≡ true) × (is_value y ≡ true) × (is_value z ≡ true) × Fine c x × Fine c y × Fine c z
   Fine c (cased k x) = (is_value x ≡ true) × Fine c x

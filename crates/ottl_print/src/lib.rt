@@ -6,4 +6,4 @@ mod names;
 mod sizes;
 mod texts;
 
-pub use laws::prints_as_itself;
+pub use laws::{is_not_deep, prints_as_itself};

@@ -6,6 +6,7 @@ ghost use Rattle.ottl_text.specs.Syntax.{term_of};
 ghost use Rattle.ottl_text.specs.Syntax as syntax;
 ghost use Rattle.ottl_text.specs.Tokens.{piece_of};
 
+use crate::depths::both_within;
 use crate::expression::{Binary, Context, Expression, Literal, Unary};
 use crate::fault::{FaultKind, ParseError};
 use crate::names::{binary_of, enumeration_of, operator_of, root_of, unary_of};
@@ -18,6 +19,9 @@ use crate::token::Token;
 use crate::trees::{before, both, in_case, one, part};
 use otlp_types::Text;
 use std::alloc::Global;
+
+/// So deep is a tree of operands and the operator between them at most, so that asking it takes little stack.
+const MOST_DEEP: usize = 400;
 
 /// `IsRootSpan`, behind its name.
 #[tactic(auto, unfolding(crate::specs::Grammar::root_span_at))]
@@ -41,10 +45,13 @@ fn joined(
 ) -> Result<Expression, ParseError>
     ensures { GivesAs term_of result (spec.joined behind binary (term_of left) (term_of right) bytes.now) }
 {
-    if binary.suits(&left) && binary.suits(&right) {
+    if !binary.suits(&left) || !binary.suits(&right) {
+        return Err(refused(behind, binary.misplaced(), bytes));
+    }
+    if both_within(MOST_DEEP, &left, &right) {
         both(alloc, binary, left, right)
     } else {
-        Err(refused(behind, binary.misplaced(), bytes))
+        Err(refused(behind, FaultKind::TooDeep, bytes))
     }
 }
 
