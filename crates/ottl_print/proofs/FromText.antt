@@ -1,6 +1,6 @@
 -- What is read from a text is a tree that prints in no more levels.
 -- For the law of laws::prints_as_itself.
-use Rattle.std.proofs.Common.{◌≡◌, ℕ, zero, suc, ◌+◌, ◌-◌, ◌<◌, ◌≤◌, ◌⊎◌, inl, inr, ℤ, max, Bool, true, false, cond, ◌&&◌, ◌||◌, List, [], ◌∷◌, ◌++◌, length, get_or, eqb, nat_lt, nat_le, take, drop, Ok, Err, Result, Option, Some, None, codes, refl, sym, ap, ◌∙◌, subst, arith, true≢false, length-take, length-drop}
+use Rattle.std.proofs.Common.{◌≡◌, ℕ, zero, suc, ◌+◌, ◌<◌, ◌≤◌, ◌⊎◌, inl, inr, ℤ, Bool, true, false, cond, ◌&&◌, ◌||◌, List, [], length, get_or, nat_lt, nat_le, take, drop, Ok, Err, Result, Option, Some, None, codes, refl, sym, ap, ◌∙◌, subst, arith, true≢false, length-take, length-drop}
 use Rattle.std.proofs.lemmas.Bool.{cases_lt}
 use Rattle.std.proofs.lemmas.Bool.Decides.{nat_tests}
 use Rattle.std.specs.Prelude.{◌==◌, bytes_eq, if◌then◌else◌}
@@ -13,7 +13,6 @@ use Rattle.ottl_text.specs.declared.expression.Unary.{Unary}
 use Rattle.ottl_text.specs.declared.expression.Unary.TheVariants as one
 use Rattle.ottl_text.specs.declared.expression.Binary.{Binary}
 use Rattle.ottl_text.specs.declared.expression.Binary.TheVariants as two
-use Rattle.ottl_text.specs.declared.expression.Case.{Case}
 use Rattle.std.specs.Str.{is_utf8, chars}
 use lib.Utf8.{encode}
 use Rattle.ottl_text.specs.Literals.{in_utf8}
@@ -23,13 +22,13 @@ use Rattle.ottl_text.specs.Gives.{Read, ◌>>=◌}
 use Rattle.ottl_text.specs.Names.{operator_of, operator_of_word, precedence, takes_keys, unary_of, binary_of, enumeration_of, root_of}
 use Rattle.ottl_text.specs.Syntax.{Term, literal, path, is_root_span, unary, binary, is_match, substring, cased, concat, is_condition, is_value, is_not, suits, depth}
 use Rattle.ottl_text.specs.Tokens.{Piece, end, word, int, float, bytes, text, sign, operator, long_operator, short_operator, by_long, by_short, is_sign, marked, quoted, unnumbered, piece_at, next_piece}
-use Rattle.ottl_text.specs.Grammar.{most_deep, next_at, after_sign, joined, fault_at, text_at, bytes_at, int_at, float_at, keyed, path_at, pattern_of, pattern_at, root_span_at, literal_at, argument_at, unary_at, binary_at, match_at, substring_at, not_at, inner_at, by_root, by_enumeration, by_binary, by_unary, named_at, word_at, by_piece, operand, by_operator, case_of, case_at, or_no_case, delimiter_of, delimiter_at, no_values_at, behind_value, is_the_sign, cased_at, concat_at, values, expression, operators}
+use Rattle.ottl_text.specs.Grammar.{most_deep, next_at, after_sign, joined, fault_at, text_at, bytes_at, int_at, float_at, keyed, path_at, pattern_of, pattern_at, root_span_at, literal_at, argument_at, unary_at, binary_at, match_at, substring_at, not_at, inner_at, by_root, by_enumeration, by_binary, by_unary, named_at, word_at, by_piece, operand, by_operator, case_at, delimiter_of, delimiter_at, no_values_at, is_the_sign, cased_at, concat_at, values, expression, operators}
 use Rattle.ottl_print.specs.Names.{is_operator}
-use Rattle.ottl_print.specs.Printing.{tightness, is_row, argument, is_like, operand_of_one, Size, levels_at, joined_size, has_parentheses, called_size, size}
-use Rattle.ottl_print.proofs.Literals.{IsFloat, split}
+use Rattle.ottl_print.specs.Printing.{tightness, is_row, argument, is_like, operand_of_one, levels_at, joined_size, has_parentheses, called_size, size}
+use Rattle.ottl_print.proofs.Literals.{split}
 use Rattle.ottl_print.proofs.Steps.{Begins, IsShallow}
-use Rattle.ottl_print.proofs.ReadsBack.{FineLiteral, suits_one, Fine, FineValue, FineValues, precedence_some, from_not_below, is_not_only, function_suits, no_binary}
-use Rattle.ottl_print.proofs.Parts.{no_ok, bind_ok, if_ok, either_ok, same_ok, same_some, no_some, case_some, int_fits, text_utf8, bytes_fine, next_began, text_began, bytes_began, int_began, float_began, keyed_fine, enumeration_fits, root_in_context}
+use Rattle.ottl_print.proofs.ReadsBack.{FineLiteral, suits_one, Fine, FineValues, precedence_some, from_not_below, no_binary}
+use Rattle.ottl_print.proofs.Parts.{no_ok, bind_ok, if_ok, same_ok, same_some, no_some, case_some, int_fits, text_utf8, bytes_fine, next_began, text_began, bytes_began, int_began, float_began, keyed_fine, enumeration_fits, root_in_context}
 use Rattle.ottl_print.proofs.Floats.{float_is}
 
 -- ---- what pieces are

@@ -1,14 +1,12 @@
 -- A condition that parses prints as text that parses to the same.
 -- For the law of laws::prints_as_itself.
-use Rattle.std.proofs.Common.{◌≡◌, ℕ, zero, suc, ◌+◌, ◌-◌, ◌<◌, ◌≤◌, Bool, true, false, cond, ◌&&◌, nat_lt, nat_le, List, [], ◌∷◌, ◌++◌, length, Ok, Err, Result, refl, sym, ap, ◌∙◌, subst, arith, true≢false, append-nil}
-use Rattle.std.proofs.lemmas.Bool.{cases_lt}
+use Rattle.std.proofs.Common.{◌≡◌, ℕ, suc, ◌+◌, ◌-◌, ◌≤◌, Bool, true, false, ◌&&◌, nat_lt, nat_le, List, [], length, Ok, refl, sym, ap, ◌∙◌, subst, arith, append-nil}
 use Rattle.std.proofs.lemmas.Bool.Decides.{nat_tests}
 use Rattle.ottl_text.specs.declared.expression.Context.{Context}
-use Rattle.ottl_text.specs.declared.fault.FaultKind.TheVariants as faults
 use Rattle.ottl_text.specs.Syntax.{Term, is_condition}
 use Rattle.ottl_text.specs.Tokens.{end, next_piece, piece_at}
-use Rattle.ottl_text.specs.Grammar.{most_levels, is_end, next_at, fault_at, expression, operators, condition_of}
-use Rattle.ottl_print.specs.Printing.{size, text, is_sparing, printed, tightness}
+use Rattle.ottl_text.specs.Grammar.{most_levels, is_end, next_at, expression, condition_of}
+use Rattle.ottl_print.specs.Printing.{size, text, is_sparing, printed}
 use Rattle.ottl_print.proofs.Parts.{bind_ok, if_ok, same_ok}
 use Rattle.ottl_print.proofs.Steps.{stops_ok}
 use Rattle.ottl_print.proofs.ReadsBack.{Fine, row_levels, tight_some, end_of, ends_here}

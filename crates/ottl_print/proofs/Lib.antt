@@ -11,4 +11,5 @@ mod FromText
 mod Law
 mod NotDeep
 mod Counted
+mod Escapes
 pub mod Rows

@@ -8,7 +8,7 @@ use Rattle.ottl_text.specs.declared.expression.Binary.{Binary}
 use Rattle.ottl_text.specs.Syntax.{Term, literal, path, is_root_span, unary, binary, is_match, substring, cased, concat, depth}
 use Rattle.ottl_text.specs.Grammar.{condition_of}
 use Rattle.ottl_print.specs.Names.{is_operator}
-use Rattle.ottl_print.specs.Printing.{argument, operand_of_one, levels_of_one, is_like, levels_at, size}
+use Rattle.ottl_print.specs.Printing.{argument, operand_of_one, levels_of_one, is_like, size}
 use Rattle.ottl_print.proofs.Steps.{IsShallow}
 use Rattle.ottl_print.proofs.ReadsBack.{Fine, FineValue, FineValues, levels_at_least}
 use Rattle.ottl_print.proofs.Law.{tree_fine}

@@ -1,9 +1,9 @@
 -- The text of a tree is read back, by induction on the tree.
 -- For the law of laws::prints_as_itself.
-use Rattle.std.proofs.Common.{◌≡◌, ℕ, zero, suc, ◌+◌, ◌-◌, ◌<◌, ◌≤◌, max, Bool, true, false, cond, not, ◌&&◌, ◌||◌, List, [], ◌∷◌, ◌++◌, length, eqb, nat_lt, nat_le, Ok, Err, Result, Option, Some, None, codes, refl, sym, ap, ◌∙◌, subst, arith, true≢false, append_assoc, append-nil}
+use Rattle.std.proofs.Common.{◌≡◌, ℕ, zero, suc, ◌+◌, ◌-◌, ◌<◌, ◌≤◌, Bool, true, false, cond, ◌||◌, List, [], ◌∷◌, ◌++◌, length, nat_lt, Ok, codes, refl, sym, ap, ◌∙◌, arith, append_assoc}
 use Rattle.std.specs.Prelude.{◌==◌}
 use Rattle.std.specs.Fmt.{signed_decimal}
-use Rattle.hex.specs.Hex.{IsBytes, encode_lower}
+use Rattle.hex.specs.Hex.{encode_lower}
 use Rattle.ottl_text.specs.declared.expression.Context.{Context}
 use Rattle.ottl_text.specs.declared.expression.Key.{Key}
 use Rattle.ottl_text.specs.declared.expression.Path.{Path}
@@ -13,11 +13,10 @@ use Rattle.ottl_text.specs.declared.expression.Unary.{Unary}
 use Rattle.ottl_text.specs.declared.expression.Unary.TheVariants as one
 use Rattle.ottl_text.specs.declared.expression.Binary.{Binary}
 use Rattle.ottl_text.specs.Gives.{Read}
-use Rattle.ottl_text.specs.Literals.{fits, in_utf8}
-use Rattle.ottl_text.specs.Names.{precedence, takes_keys}
+use Rattle.ottl_text.specs.Literals.{in_utf8}
+use Rattle.ottl_text.specs.Names.{precedence}
 use Rattle.ottl_text.specs.Syntax.{Term, literal, path, is_root_span, unary, binary, is_match, substring, cased, concat, is_condition, is_value, is_not, suits}
 use Rattle.ottl_text.specs.declared.expression.Case.{Case}
-use Rattle.ottl_text.specs.declared.expression.Case.TheVariants as cases
 use Rattle.std.specs.Str.{is_utf8, chars}
 use lib.Utf8.{encode}
 use Rattle.ottl_text.specs.Grammar.{is_the_sign, next_at, argument_at, by_piece, cased_at, concat_at, literal_at, inner_at, word_at, operand, expression, operators, values}
@@ -25,13 +24,13 @@ use Rattle.ottl_print.proofs.Parts.{bind_ok, if_ok, no_ok, next_began, eq_of_tes
 use Rattle.ottl_text.specs.Tokens.{Piece, end, word, int, float, bytes, text as quoted_text, sign, operator, next_piece}
 use Rattle.ottl_print.specs.Names.{unary_name, binary_name, case_name, is_operator, root_name}
 use Rattle.ottl_print.specs.Texts.{escaped, in_quotes, keys_text, float_text, literal_text}
-use Rattle.ottl_print.specs.Printing.{tightness, argument, operand_of_one, Size, alone, levels_at, joined_size, has_parentheses, called_size, size, in_parentheses, operand_text, first_of, next_of, closing, is_like, concat_text, text, values_text}
+use Rattle.ottl_print.specs.Printing.{tightness, argument, Size, levels_at, joined_size, has_parentheses, size, in_parentheses, operand_text, first_of, next_of, closing, is_like, concat_text, text, values_text}
 use Rattle.ottl_print.proofs.Pieces.{Free}
 use Rattle.ottl_print.proofs.Marks.{text_piece, sign_40, sign_41, sign_44, sign_91, sign_93, piece_of_operator, operator_piece, operator_again}
-use Rattle.ottl_print.proofs.Literals.{IsWhole, whole_number, int_read, IsFloat, float_read, bytes_read}
-use Rattle.ottl_print.proofs.NamesBack.{name_piece, in_context, root_is_name, unary_is_name, root_word, unary_word, binary_word, is_name}
-use Rattle.ottl_print.proofs.Steps.{IsShallow, Begins, Ends, FineKeys, keys_ok, path_ok, literal_int, literal_float, literal_of_text, literal_bytes, root_span_ok, IsArgument, unary_ok, binary_ok, match_ok, substring_ok, not_ok, inner_ok, operand_ok, expression_ok, stops_ok, goes_on, cased_ok, delimiter_ok, concat_ok, last_value, more_values}
-use Rattle.ottl_print.proofs.ReadsBack.{ends_41, ends_44, ends_93, ends_operator, ends_more, end_of, end_ok, precedence_some, tight_some, left_end, FineLiteral, suits_one, Fine, FineValue, FineValues, function_suits, binary_is_name, levels_at_least, row_levels, from_not_below, at_most_is_true, is_not_only, is_like_only}
+use Rattle.ottl_print.proofs.Literals.{whole_number, int_read, float_read, bytes_read}
+use Rattle.ottl_print.proofs.NamesBack.{name_piece, root_is_name, unary_is_name, root_word, unary_word, binary_word, is_name}
+use Rattle.ottl_print.proofs.Steps.{IsShallow, Begins, Ends, keys_ok, path_ok, literal_int, literal_float, literal_of_text, literal_bytes, root_span_ok, IsArgument, unary_ok, binary_ok, match_ok, substring_ok, not_ok, inner_ok, operand_ok, expression_ok, stops_ok, goes_on, cased_ok, delimiter_ok, concat_ok, last_value, more_values}
+use Rattle.ottl_print.proofs.ReadsBack.{ends_41, ends_44, ends_93, ends_operator, ends_more, end_of, end_ok, tight_some, left_end, FineLiteral, suits_one, Fine, FineValue, FineValues, function_suits, binary_is_name, levels_at_least, row_levels, from_not_below, at_most_is_true, is_not_only, is_like_only}
 
 module _ (sparing : Bool) (c : Context) (behind : ℕ) where
   -- the expressions that nest one level less

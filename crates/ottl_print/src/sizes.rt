@@ -7,7 +7,10 @@ ghost use Rattle.ottl_print.specs.Sizes.{IsCapped, IsSizeOf};
 use crate::names::{is_operator, precedence};
 use ottl_text::{Binary, Expression, Unary};
 
-/// One level more than may nest.
+/// So many levels may nest, or operators stand in a row.
+pub(crate) const MOST_LEVELS: usize = 200;
+
+/// One level more.
 const TOO_MANY: usize = 201;
 
 /// The levels that a text needs, and the operators that stand in it in a row outside parentheses.
@@ -43,7 +46,8 @@ fn larger(left: usize, right: usize) -> usize
 
 /// How tight the outermost operator binds.
 pub(crate) fn tightness(expression: &Expression) -> u8
-    ensures { result ≡ spec.tightness (term_of expression.now) }
+    ensures same { result ≡ spec.tightness (term_of expression.now) }
+    ensures small { result ≤ 6 }
 {
     match expression {
         Expression::Binary(binary, _, _) => {
@@ -121,7 +125,7 @@ fn joined(parentheses: bool, left: Size, right: usize) -> Size
 /// Whether parentheses save levels: the operand on the left and what follows it take more in a row.
 fn saves_levels(sparing: bool, left: &Expression, size: Size, right: usize) -> bool
     requires { (size.row ≤ 201) × (right ≤ 201) }
-    ensures { (s : spec.Size) (n : ℕ) → IsSizeOf s size.levels size.row → IsCapped right n → s.levels ≤ 200
+    ensures { (s : spec.Size) (n : ℕ) → IsSizeOf s size.levels size.row → IsCapped right n → (sparing ≡ true → s.levels ≤ 200)
         → result ≡ spec.saves_levels sparing (term_of left.now) s n }
 {
     // Operators in a row count as levels, so parentheses may save some (D-357).
@@ -142,7 +146,7 @@ pub(crate) fn has_parentheses(
     right: usize,
 ) -> bool
     requires { (size.row ≤ 201) × (right ≤ 201) }
-    ensures { (s : spec.Size) (n : ℕ) → IsSizeOf s size.levels size.row → IsCapped right n → s.levels ≤ 200
+    ensures { (s : spec.Size) (n : ℕ) → IsSizeOf s size.levels size.row → IsCapped right n → (sparing ≡ true → s.levels ≤ 200)
         → result ≡ spec.has_parentheses sparing binary (term_of left.now) s n }
 {
     let is_loose = tightness(left) < precedence(binary);
