@@ -1,6 +1,6 @@
 -- What is due at an entry is decided, one after the other, by the one limiter.
 -- For the clause `decides` of `decide_all`.
-use Rattle.std.proofs.Common.{◌≡◌, ℕ, zero, suc, ◌+◌, ◌/◌, Bool, true, false, cond, List, [], ◌∷◌, ◌++◌, map, reverse, length, drop, refl, sym, ap, subst, ◌∙◌, append_assoc, append-nil, add-one}
+use Rattle.std.proofs.Common.{◌≡◌, ℕ, zero, suc, ◌+◌, ◌/◌, Bool, true, false, cond, List, [], ◌∷◌, ◌++◌, map, reverse, drop, refl, sym, ap, subst, ◌∙◌, append_assoc, append-nil, add-one}
 use Rattle.otlp_types.specs.declared.arrival.Arrival.{Arrival}
 use Rattle.policy_tree.specs.Tree.{Policies, no_more}
 use Rattle.trace_buffer.specs.Buffer.{is_too_big}

@@ -1,6 +1,6 @@
 -- A report grows by what a reply tells.
 -- For the contract of `count_reply`.
-use Rattle.std.proofs.Common.{◌≡◌, ℕ, ◌+◌, ◌<◌, ◌≤◌, ◌^◌, ◌==◌, Bool, true, false, List, [], ◌∷◌, length, Some, None, refl, sym, ap, subst, ◌∙◌, inl, inr, arith}
+use Rattle.std.proofs.Common.{◌≡◌, ℕ, ◌+◌, ◌<◌, ◌^◌, ◌==◌, true, List, length, Some, None, refl, sym, ap, subst, ◌∙◌, inl, inr, arith}
 use Rattle.std.specs.Prelude.{slice_index, slice_set, if◌then◌else◌}
 use Rattle.std.proofs.lemmas.Grind.{common_steps}
 use Rattle.std.proofs.lemmas.List.{get_or-set_other}
@@ -65,7 +65,7 @@ all-done n = each_count (λ k. received_by (Done n) k ≡ at_count Received n k)
 
 all-partial : (n i f : ℕ) (k : Count) → received_by (Partial n i f) k ≡ at_count Received n k + (at_count (Dropped InvalidId) i k + at_count (Dropped QueueFull) f k)
 all-partial n i f = each_count (λ k. received_by (Partial n i f) k ≡ at_count Received n k + (at_count (Dropped InvalidId) i k + at_count (Dropped QueueFull) f k))
-    (omega arith) refl (omega arith) refl refl refl refl refl refl
+    (omega arith) refl (omega arith) (omega arith) refl refl refl refl refl
 
 pub adds-reply : (reply : Reply) (old new : List ℕ) → length old ≡ 9 → Counts reply true old new → FitsIn reply true old → Adds (Some old) (received_by reply) (Some new)
 adds-reply (Done n) old new nine is fits =

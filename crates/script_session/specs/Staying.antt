@@ -1,5 +1,5 @@
 -- Where no span is pulled and none is counted, an exporter and its report stay as they were: a law of `Output`.
-use Rattle.std.proofs.Common.{◌≡◌, ℕ, ◌+◌, ◌<◌, List, [], ◌++◌, Option, Some, None, refl, sym, arith, append-nil}
+use Rattle.std.proofs.Common.{◌≡◌, ℕ, ◌+◌, List, [], Option, Some, None, refl, sym, arith, append-nil}
 use Rattle.std.specs.Prelude.{slice_index}
 use Rattle.span_ids.specs.declared.outcome.Reason.{Reason}
 use Rattle.drop_ledger.specs.Places.{place_of}

@@ -1,4 +1,4 @@
-use Rattle.std.proofs.Common.{refl, inl, inr, sym, subst}
+use Rattle.std.proofs.Common.{inl, inr, sym, subst}
 use Rattle.rate_budget.specs.Budget.{AsksBudgets}
 use Rattle.shard_core.specs.Held.{settings}
 use Rattle.shard_core.specs.Taking.{Decides}
@@ -23,13 +23,13 @@ deciding-preserved g c =
     record {
       decided = λ e past none stands is.
           DecidesSome-push _ e past c.deciding.shard c.decide-decided.new.self c.deciding.limiter c.decide-decided.new.limiter c.args.output.now c.deciding.output c.settle_decided.new.desk
-          c.decide-decided.result c.else-not-settle_decided.ensures.some before.kept.settings_same (before.decided e past none stands is) step.decides settled.takes.0;
+          c.decide-decided.result c.if-not-settle_decided.ensures.some before.kept.settings_same (before.decided e past none stands is) step.decides settled.takes.0;
       kept = kept-then c.args.shard.now c.deciding.shard c.decide-decided.new.self c.args.limiter.now c.deciding.limiter c.decide-decided.new.limiter c.args.output.now c.deciding.output c.settle_decided.new.desk
           before.kept step.keeps step.settings step.ends settled.takes.1;
     }
 
 pub deciding-smaller : goal.deciding-smaller
-deciding-smaller g c = elim c.decide-decided.ensures.fewer [ inl nothing ↦ absurd (c.else-not-settle_decided.ensures.some nothing) | inr fewer ↦ fewer ]
+deciding-smaller g c = elim c.decide-decided.ensures.fewer [ inl nothing ↦ absurd (c.if-not-settle_decided.ensures.some nothing) | inr fewer ↦ fewer ]
 
 pub returns-then-not-settle_decided-clause-decides : goal.returns-then-not-settle_decided-clause-decides
 returns-then-not-settle_decided-clause-decides g c = λ e past none stands is.
