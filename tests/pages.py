@@ -7,9 +7,9 @@ Each crate, function, definition, clause, proof, edit and test in the tables of 
 the pages of NAMED is there; each crate stands on a page of docs/crates, in the order of crates.txt, and each layer in docs/CRATES.md, and it has a README of
 at most 40 lines with its name as the title. Each link goes somewhere, to the heading too, and each page is reached from the README by at most two links, as
 docs/READERS.md says of its questions. Each number of /metrics is told, and each event of the log is there. No page has more than 150 lines, no line of prose
-more than 120 columns, no cell of a table more than 250 characters. The pages that are made are as packaging/pages.py makes them, and bench/tables.py finds
-its tables. Each command behind a `$` prints what stands there; with a program, so do the commands of the README, and its configuration is that of its
-example. It prints a line for each difference, and last 'N passed, M failed'."""
+more than 120 columns, no cell of a table more than 250 characters. The pages that are made are as packaging/pages.py makes them, bench/tables.py finds its
+tables, and crates.txt is what tools/uses.py writes. Each command behind a `$` prints what stands there; with a program, so do the commands of the README,
+and its configuration is that of its example. It prints a line for each difference, and last 'N passed, M failed'."""
 
 import os
 import re
@@ -418,18 +418,18 @@ def readme_commands(program):
         yield from differs("README.md: its collector", ["{}{}" + shown[3], *shown[4:]], ran.stdout)
 
 
-def made_pages():
-    """The pages that packaging/pages.py makes are up to date, and bench/tables.py finds its tables."""
-    for script in ("packaging/pages.py", "bench/tables.py"):
-        ran = subprocess.run([TOP / script, "--check"], capture_output=True, text=True, check=False)
-        yield from (ran.stdout + ran.stderr).splitlines()
+def made_by(script):
+    """What a script makes is up to date: the pages of packaging/pages.py, the tables of bench/tables.py, crates.txt by tools/uses.py."""
+    ran = subprocess.run([TOP / script, "--check"], capture_output=True, text=True, check=False)
+    yield from (ran.stdout + ran.stderr).splitlines()
 
 
 def main():
     program = os.path.abspath(sys.argv[1]) if len(sys.argv) > 1 else None
     known = {it: Crate(it) for it in CRATES}
     words, names = everything()
-    checks = [in_proved(known), crates_in_order(), kit_is_named(), numbers_are_told(), made_pages(), readme_configuration(), shown_commands(program), reached(), readers_ways(), readmes()]
+    checks = [in_proved(known), crates_in_order(), kit_is_named(), numbers_are_told(), readme_configuration(), shown_commands(program), reached(), readers_ways(), readmes()]
+    checks += [made_by(it) for it in ("packaging/pages.py", "bench/tables.py", "tools/uses.py")]
     checks += [in_page(it, words, names) for it in PARTS]
     checks += [check(it) for it in PAGES for check in (links, lengths, widths)]
     checks += [readme_commands(program)] if program else []

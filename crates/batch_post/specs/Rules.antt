@@ -1,4 +1,4 @@
--- What each answer means, and how long is waited (OTLP 1.x, OTLP/HTTP: "Failures", "Retryable Response Codes",
+-- What each answer means, and how long the waits are (OTLP 1.x, OTLP/HTTP: "Failures", "Retryable Response Codes",
 -- "OTLP/HTTP Throttling").
 use Rattle.std.specs.Prelude.{ℕ, ◌+◌, ◌-◌, ◌*◌, ◌/◌, ◌%◌, ◌^◌, ◌==◌, min, nat_lt, Bool, true, false, not, ◌&&◌, ◌||◌, Option, Some, None, if◌then◌else◌}
 use Rattle.batch_post.specs.declared.outcome.AttemptOutcome.{AttemptOutcome}
@@ -29,7 +29,7 @@ next_wait rule wait = min (min (wait * 2) most) rule.longest
 abbrev pub with_jitter : (wait random : ℕ) → ℕ
 with_jitter wait random = wait - random % (wait / 2 + 1)
 
--- how long is waited: as the answer asks, where it asks for some time, else this wait with jitter
+-- the wait: that which the answer asks for, where it asks for some time, else this one with jitter
 abbrev pub wait_after : AttemptOutcome → (wait random : ℕ) → ℕ
 wait_after (Answered status (Some asked)) wait random = if asked == 0 then with_jitter wait random else asked
 wait_after (Answered status None) wait random = with_jitter wait random

@@ -17,7 +17,7 @@ pub trait Backend {
     fn settle(&mut self, batch: &[u8], fate: BatchFate)
         ensures { Grows (log self.old) (log self.new) (settled batch.now fate ∷ []) };
 
-    /// Waits for so many milliseconds, or less where the collector closes meanwhile.
+    /// Waits for this number of milliseconds, or less where the collector closes meanwhile.
     fn wait(&mut self, milliseconds: u64)
         ensures { Grows (log self.old) (log self.new) [] };
 

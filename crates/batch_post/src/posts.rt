@@ -72,6 +72,7 @@ impl<'r, B: Backend, R: Wait> Destination for Posts<'r, B, R> {
     }
 
     fn is_down(&self) -> bool {
+        // A batch that is given up ends nothing: the next one is tried (D-205).
         false
     }
 }

@@ -57,6 +57,7 @@ impl<'r, S: Sink, B: Backend, R: Wait> Destination for PrintedPosts<'r, S, B, R>
         // what this one does besides: it posts just what it has printed whole
         ensures posts { posts_behind self.old line.now result self.new }
     {
+        // A print that fails ends the sending too: what is sent is always printed (D-203).
         self.lines.hand(line)?;
         match self.posts.hand(line) {
             Ok(()) => Ok(()),

@@ -20,7 +20,7 @@ pub struct Retry {
 pub enum RetryVerdict {
     /// The backend took the batch.
     Taken,
-    /// The batch is tried again after so many milliseconds.
+    /// The batch is tried again after this number of milliseconds.
     Waits(u64),
     /// The batch is given up.
     Ends,
@@ -40,6 +40,7 @@ pub(crate) fn may_try_again(outcome: AttemptOutcome) -> bool
 pub(crate) fn is_taken(outcome: AttemptOutcome) -> bool
     ensures { result ≡ is_taken outcome }
 {
+    // Not 202 or another 2xx: OTLP/HTTP says 200 (D-209).
     matches!(outcome, AttemptOutcome::Answered(200, _))
 }
 
@@ -51,8 +52,8 @@ impl Retry {
         wait.saturating_mul(2).min(self.longest)
     }
 
-    /// Whether it is too late for an attempt after this wait, so long after the first one began, where so much time is
-    /// left to a collector that closes.
+    /// Whether it is too late for an attempt after this wait, where `elapsed` has passed since the first one began, and
+    /// `left` is what is left to a collector that closes.
     fn is_too_late(&self, elapsed: u64, wait: u64, left: Option<u64>) -> bool
         ensures { result ≡ is_too_late self.now elapsed wait left }
     {
@@ -91,14 +92,15 @@ impl Retry {
 fn with_jitter(wait: u64, random: u64) -> u64
     ensures { result ≡ with_jitter wait random }
 {
+    // With jitter, so that senders that failed together don't come back together.
     wait - random % (wait / 2 + 1)
 }
 
-/// How long is waited after an attempt: as the answer asks, where it asks for some time, else for this long, with
-/// jitter.
+/// The wait after an attempt: that which the answer asks for, where it asks for some time, else this one, with jitter.
 fn wait_after(outcome: AttemptOutcome, wait: u64, random: u64) -> u64
     ensures { result ≡ wait_after outcome wait random }
 {
+    // A `Retry-After` of 0 counts as none: the backend would be asked again and again without a pause (D-204).
     match outcome {
         AttemptOutcome::Answered(_, Some(asked)) if asked > 0 => asked,
         _ => with_jitter(wait, random),

@@ -9,7 +9,7 @@ use policy_tree::Policies;
 use std::alloc::{AllocError, Global};
 use std::sync::atomic::{AtomicBool, AtomicU64, Ordering};
 
-/// So many counts a report has.
+/// The number of counts in a report.
 const PLACES: usize = 9;
 
 /// What a shard told last of what it holds.
@@ -99,7 +99,7 @@ pub struct Board {
 }
 
 impl Board {
-    /// Nothing was counted, and requests are taken, by so many shards that decide by these policies.
+    /// Nothing was counted, and requests are taken. The shards, of this number, decide by these policies.
     pub fn new(alloc: Global, shards: usize, policies: &Policies) -> Result<Self, AllocError> {
         let mut cells = Vec::new(alloc);
         for _ in 0..shards {
@@ -154,10 +154,11 @@ impl Board {
         for place in 1..PLACES {
             ended = ended.saturating_add(self.cell(place).load(Ordering::Relaxed));
         }
+        // Read one after the other while threads count on, so what has ended may be ahead for a moment.
         self.received.load(Ordering::Relaxed).saturating_sub(ended)
     }
 
-    /// The backend took a line of so many bytes.
+    /// The backend took a line of this number of bytes.
     pub fn delivered(&self, bytes: u64) {
         self.output_bytes.fetch_add(bytes, Ordering::Relaxed);
         self.lines.fetch_add(1, Ordering::Relaxed);
@@ -168,7 +169,7 @@ impl Board {
         self.has_failed.store(true, Ordering::Relaxed);
     }
 
-    /// The backend rejected so many spans of a batch that it took.
+    /// The backend rejected this number of spans of a batch that it took.
     pub fn rejects(&self, spans: u64) {
         self.rejected.fetch_add(spans, Ordering::Relaxed);
     }
@@ -267,6 +268,7 @@ impl Board {
     pub fn wrote(&self, bytes: &[u8]) {
         self.output_bytes
             .fetch_add(bytes.len() as u64, Ordering::Relaxed);
+        // However many writes a line took, its line feed is the end of the last.
         if bytes.ends_with(b"\n") {
             self.lines.fetch_add(1, Ordering::Relaxed);
         }
@@ -289,6 +291,7 @@ impl Board {
         for cells in &self.policies {
             let sampled = cells.sampled.load(Ordering::Relaxed);
             let not_sampled = cells.not_sampled.load(Ordering::Relaxed);
+            // No two samples may have the same labels, so these are told with what none decided (D-193).
             if cells.name.as_str().is_empty() {
                 unnamed.sampled = unnamed.sampled.saturating_add(sampled);
                 unnamed.not_sampled = unnamed.not_sampled.saturating_add(not_sampled);
@@ -323,7 +326,7 @@ impl Board {
         Ok(numbers)
     }
 
-    /// The process takes so many bytes of memory.
+    /// The process takes this number of bytes of memory.
     pub fn takes(&self, bytes: u64) {
         self.memory_bytes.store(bytes, Ordering::Relaxed);
     }
@@ -362,6 +365,7 @@ impl Board {
 /// Cells for what no policy decides, and then for what each does, in order.
 fn policy_cells(alloc: Global, policies: &Policies) -> Result<Vec<PolicyCells>, AllocError> {
     let mut cells = Vec::new(alloc);
+    // For what no policy decides, such as a trace that is too big (D-040, D-066).
     cells.push(PolicyCells::new(Text::new(alloc)))?;
     for policy in policies.as_slice() {
         cells.push(PolicyCells::new(policy.name.try_clone(alloc)?))?;
@@ -377,6 +381,7 @@ impl Gate for Board {
     }
 
     fn counted(&self, place: usize, spans: u64) {
+        // The thread has it in its own report already, which is the one that is printed (D-195).
         self.cell(place).fetch_add(spans, Ordering::Relaxed);
     }
 

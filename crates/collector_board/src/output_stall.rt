@@ -27,6 +27,7 @@ impl OutputStall {
     /// A write begins now.
     pub fn begins<R: Clock>(&self, rt: &R) {
         let now = self.passed(rt);
+        // From 1 on, since 0 says that none is under way.
         self.began.store(now.saturating_add(1), Ordering::Relaxed);
     }
 

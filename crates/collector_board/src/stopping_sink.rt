@@ -71,12 +71,14 @@ impl<'s, S: Sink, P: HasStopMark, R: Clock> Sink for StoppingSink<'s, S, P, R> {
         self.stall.begins(self.rt);
         let answer = self.sink.write(bytes);
         self.stall.ends();
+        // Lines that are sent, too, are counted once the backend took them.
         match answer {
             Ok(_) if self.are_sent => {}
             Ok(n) => self.board.wrote(bytes.get(..n).unwrap_or(b"")),
             Err(_) => {
                 self.board.fails();
                 if self.stops {
+                    // At the very write that failed, as at a close: what holds of every closed run holds here (D-200).
                     self.stop.set();
                 }
             }

@@ -23,11 +23,11 @@ Serves-ran course answer outcome is ran = subst (λ o. Serves course o) (sym is)
 
 -- nothing was done for want of memory, or since it couldn't be listened
 pub sends-starved : (config : Config) (lines : Bool) (taken taken_after : Option (List ℕ)) → config.export.lines ≡ lines → taken_after ≡ taken → SendsTo config taken taken_after (served_to (Err NoMemory))
-sends-starved config false taken taken_after is same = inl (is, same, None, None, inr (0, Err NoMemory, (refl, refl), tt, refl))
+sends-starved config false taken taken_after is same = inl (is, same, (None, None, inr (0, Err NoMemory, (refl, refl), tt, refl)))
 sends-starved config true taken taken_after is same = inr (is, inr (0, Err NoMemory, (same, refl), tt, refl))
 
 pub sends-unheard : (config : Config) (lines : Bool) (taken : Option (List ℕ)) → config.export.lines ≡ lines → SendsTo config taken taken CannotListen
-sends-unheard config false taken is = inl (is, refl, None, None, inl (refl, refl))
+sends-unheard config false taken is = inl (is, refl, (None, None, inl (refl, refl)))
 sends-unheard config true taken is = inr (is, inl (refl, refl))
 
 runs-starved : (config : Config) (is : Bool) (taken : Option (List ℕ)) → prints config ≡ is → RunsTo config taken taken (served_to (Err NoMemory))
@@ -44,7 +44,7 @@ Serves-runs course config outcome read here unread (inl (printed, inr x)) =
 Serves-runs course config outcome read here unread (inr (sent, inl (off, same, t, u, inl x))) = subst (λ o. Serves course o) (sym x.1) (config, read, (unread, same))
 Serves-runs course config outcome read here unread (inr (sent, inl (off, same, t, u, inr x))) =
     Serves-ran course x.1 outcome x.4
-    (inr (inl (record { config = config; is_read = read; sent = sent; here = here; sends = inl (off, same, t, u, inr x); unread = unread })))
+    (inr (inl (record { config = config; is_read = read; sent = sent; here = here; sends = inl (off, same, (t, u, inr x)); unread = unread })))
 Serves-runs course config outcome read here unread (inr (sent, inr (on, inl x))) = subst (λ o. Serves course o) (sym x.1) (config, read, (unread, x.0))
 Serves-runs course config outcome read here unread (inr (sent, inr (on, inr x))) =
     Serves-ran course x.1 outcome x.4

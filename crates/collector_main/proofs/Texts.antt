@@ -16,7 +16,7 @@ use Rattle.std.specs.Prelude.{Result, Ok, Err, is_ok}
 use Rattle.span_sink.specs.LineSinks.{LineSinkState}
 use Rattle.span_sink.specs.Hands.{HandsOne}
 use Rattle.span_sink.specs.declared.sink.SinkFault.{SinkFault}
-use Rattle.span_sink.specs.declared.sink.SinkFault.TheVariants.{Failed, Down}
+use Rattle.span_sink.specs.declared.sink.SinkFault.TheVariants.{Failed, Refused, Down}
 use Rattle.collector_main.specs.Ending.{WritesText, HandsText, text_of, name_of, count_line, counts}
 use Rattle.collector_main.specs.declared.program.Outcome.TheVariants.{Done, Configuration, Script}
 use Rattle.config_faults.specs.declared.fault.ConfigFault.TheVariants.{Policy, MissingKey}
@@ -56,6 +56,7 @@ HandsText-one old new line (Err Failed) some f = record {
   down = f.goes_down;
   stays = λ (d : old.is_down ≡ true). let up : old.is_down ≡ false = f.was_up in cc;
 }
+HandsText-one old new line (Err Refused) some f = elim f [ ]
 HandsText-one old new line (Err Down) some d = record {
   writes = record {
     part = [];

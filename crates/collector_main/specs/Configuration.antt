@@ -1,4 +1,4 @@
--- What is read of the configuration's file, and what that is read as.
+-- What is read from the configuration's file, and what that is read as.
 use Rattle.std.specs.Prelude.{◌≡◌, ◌≢◌, ◌≤◌, ◌+◌, ℕ, List, take, length, Option, Result, Ok, Err, IsUtf8, IfSome}
 use Rattle.std.specs.Option.{option_map}
 use Rattle.tsc_config.specs.FaultSets.{MayBeTooBig}
@@ -19,7 +19,7 @@ greatest_length = 1048576
 abbrev pub IsStart : Option (List ℕ) → List ℕ → Type 0
 IsStart remaining bytes = IfSome (option_map (take (greatest_length + 1)) remaining) (λ start. bytes ≡ start)
 
--- what was read of a file, or why nothing was
+-- what was read from a file, or why nothing was
 abbrev pub file_of : {V : Type 0} → (V → List ℕ) → Result V FileFault → Result (List ℕ) FileFault
 file_of items (Ok bytes) = Ok (items bytes)
 file_of items (Err fault) = Err fault

@@ -109,8 +109,8 @@ pub record HandsText (old : LineSinkState) (text : List ℕ) (written : Bool) (n
 
 -- ---- how each outcome arises
 
--- what the program was given, and what it left of that before its last text: its arguments, what was read of the
--- configuration's file, what its reader had given and had left, and what its writer had taken
+-- what the program was given, and what it left of that before its last text: its arguments, what was read from
+-- the configuration's file, what its reader had given and had left, and what its writer had taken
 pub record Course : Type 0 where
   pub arguments : List (List ℕ)
   pub file : Result (List ℕ) FileFault
@@ -150,7 +150,7 @@ AsksFor arguments command = asked arguments ≡ Some command
 abbrev pub AsksNothing : (arguments : List (List ℕ)) → Type 0
 AsksNothing arguments = asked arguments ≡ None
 
--- nothing was read of the script, and nothing was written
+-- nothing was read from the script, and nothing was written
 abbrev pub NothingDone : Course → Type 0
 NothingDone course = (course.unread_after ≡ course.unread) × (course.taken_after ≡ course.taken)
 
@@ -197,7 +197,7 @@ abbrev pub writes_file : Config → Bool
 writes_file config = (prints config || config.export.lines) && not (length config.output == 0)
 
 -- a configuration was read that says nowhere to send lines to, and the run on a listener by it had an answer of this
--- outcome; what its threads did is a run of the core; nothing was read of a script
+-- outcome; what its threads did is a run of the core; nothing was read from a script
 pub record ServedTo (course : Course) (outcome : Outcome) : Type 0 where
   pub config : Config
   pub is_read : IsConfigOf course.file config
@@ -242,7 +242,7 @@ RunsTo config taken taken_after outcome =
     ((prints config ≡ true) × PrintsTo config taken taken_after outcome) ⊎ ((prints config ≡ false) × SendsTo config taken taken_after outcome)
 
 -- a configuration was read that says where to send lines to, and the run by it came to this outcome; nothing was read
--- of a script
+-- from a script
 pub record ExportedTo (course : Course) (outcome : Outcome) : Type 0 where
   pub config : Config
   pub is_read : IsConfigOf course.file config
@@ -257,7 +257,7 @@ abbrev pub FilesTo : Config → (taken taken_after : Option (List ℕ)) → Outc
 FilesTo config taken taken_after outcome = (taken_after ≡ taken) × ((before : Option (List ℕ)) × (after : Option (List ℕ)) × RunsTo config before after outcome)
 
 -- a configuration was read that names a file for lines that are printed, and the run by it came to this outcome; nothing
--- was read of a script
+-- was read from a script
 pub record FiledTo (course : Course) (outcome : Outcome) : Type 0 where
   pub config : Config
   pub is_read : IsConfigOf course.file config
@@ -306,7 +306,7 @@ CameTo course input outcome = (command : Command) × AsksFor course.arguments co
 abbrev pub Finishes : (taken : Option (List ℕ)) → Outcome → (taken_last : Option (List ℕ)) → (status : ℕ) → Type 0
 Finishes taken outcome taken_last status = (written : Bool) × WritesText taken (text_of outcome) written taken_last × (status ≡ exit_status outcome written)
 
--- the program did what the arguments say by what it read of the file, and then wrote the text of the outcome
+-- the program did what the arguments say by what it read from the file, and then wrote the text of the outcome
 pub record EndsWith (arguments : List (List ℕ)) (input : Option (List ℕ)) (unread unread_after : KnownReader) (taken taken_last : Option (List ℕ)) (status : ℕ) : Type 0 where
   pub outcome : Outcome
   pub file : Result (List ℕ) FileFault

@@ -8,7 +8,7 @@ use Rattle.request_show.specs.declared.showing.Shown.TheVariants as show_is
 use Rattle.collector_main.specs.declared.program.Outcome.{Outcome}
 use Rattle.collector_main.specs.declared.program.Outcome.TheVariants as is
 
--- what was read of a body, or why nothing was
+-- what was read from a body, or why nothing was
 abbrev pub body_of : {V : Type 0} → (V → List ℕ) → Result V BodyFault → Result (List ℕ) BodyFault
 body_of items (Ok body) = Ok (items body)
 body_of items (Err fault) = Err fault
@@ -19,7 +19,7 @@ unread_text body_is.NoMemory = codes "tsc: no memory\n"
 unread_text body_is.Unreadable = codes "tsc: body refused: reading it failed\n"
 unread_text body_is.TooLong = codes "tsc: body refused: longer than 67108864 bytes\n"
 
--- what is shown of what was read of a body; or there was no memory
+-- what is shown of what was read from a body; or there was no memory
 abbrev pub BodyShows : Result (List ℕ) BodyFault → Outcome → Type 0
 BodyShows (Ok body) (is.Shown line) = Shows body (show_is.Line line)
 BodyShows (Ok body) (is.NotShown said) = Shows body (show_is.Refused said)
@@ -27,7 +27,7 @@ BodyShows (Err fault) (is.NotShown said) = string_bytes said ≡ unread_text fau
 BodyShows _ is.NoMemory = ⊤
 BodyShows _ _ = ⊥
 
--- this was read of what standard input has
+-- this was read from what standard input has
 abbrev pub IsReadOf : (input : Option (List ℕ)) → Result (List ℕ) BodyFault → Type 0
 IsReadOf input (Ok body) = IsWhole input body
 IsReadOf input (Err body_is.TooLong) = IsTooLong input

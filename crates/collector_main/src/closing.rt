@@ -17,13 +17,13 @@ use tsc_config::Config;
 const CLOSE: &[u8] =
     b"POST /close HTTP/1.1\r\nHost: tsc\r\nContent-Length: 0\r\nConnection: close\r\n\r\n";
 
-/// How an answer to it begins, where the collector closes (RFC 9112, section 4).
+/// The beginning of an answer to it, where the collector closes (RFC 9112, section 4).
 const CLOSES: &[u8] = b"HTTP/1.1 200";
 
-/// For how many seconds an answer is waited for.
+/// The longest wait for an answer, in seconds.
 const PATIENCE: u64 = 60;
 
-/// Asks the collector that runs by the configuration in what was read of its file to close.
+/// Asks the collector that runs by the configuration in what was read from its file to close.
 pub fn close_by<T: Net<Listener = TcpListener, Stream = TcpStream>>(
     rt: &T,
     alloc: Global,
@@ -47,11 +47,13 @@ fn is_closing<T: Net<Listener = TcpListener, Stream = TcpStream>>(
     alloc: Global,
     config: &Config,
 ) -> io::Result<bool> {
+    // With an `admin` address the other one answers 404 (D-245).
     let mut address = config.admin.as_str();
     if address.is_empty() {
         address = config.listen.as_str();
     }
     let patience = Some(Duration::from_secs(PATIENCE));
+    // Where it listens at every address of the machine, this is one of them.
     let own = match port_alone(address) {
         Some(port) => format!(in alloc; "127.0.0.1:{port}")?,
         None => String::from_str(alloc, address)?,

@@ -26,7 +26,7 @@ use tsc_config::{Config, OutputFault};
 /// A mebibyte.
 const MEBIBYTE: u64 = 1_048_576;
 
-/// Takes requests on a listener by the configuration in what was read of its file, which has this path.
+/// Takes requests on a listener by the configuration in what was read from its file, which has this path.
 pub fn serve_by<
     T: Files<File = File>
         + Net<Listener = TcpListener, Stream = TcpStream>
@@ -54,6 +54,7 @@ pub fn serve_by<
       taken_after = W.contents result.0;
     }) result.1 }
 {
+    // For `/config`: reading the configuration uses the bytes up.
     let copy = copy_of(alloc, &file);
     let config = match config_of(alloc, file) {
         Ok(config) => config,
@@ -64,6 +65,7 @@ pub fn serve_by<
     };
     let mut events = EventWriter::new(around.errors, config.log);
     say_start(rt, alloc, &mut events, path, &config);
+    // The settings in force are told whole, so without memory for their text it doesn't start (D-198).
     let Ok(charge) = charge_of(alloc, copy, &config) else {
         say_no_memory(rt, alloc, &mut events);
         return (writer, Outcome::NoMemory);
@@ -87,8 +89,10 @@ pub fn serve_by<
         return (writer, Outcome::CannotListen);
     };
     let ended = serve_to(rt, alloc, config, &listener, &charge, output, writer);
+    // Who connected meanwhile is answered, and then nobody listens any more (D-177).
     door.end(rt, &charge);
     drop(listener);
+    // Once the run has ended, and before the report is printed (D-194).
     charge.removes_sockets(rt);
     say_end(rt, alloc, &mut events, &charge, &ended.1);
     ended

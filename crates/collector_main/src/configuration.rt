@@ -1,4 +1,4 @@
-//! The configuration: what is read of its file, and what that is read as.
+//! The configuration: what is read from its file, and what that is read as.
 ghost use Rattle.std.specs.Prelude.{◌≡◌, ◌≢◌, Ok, Err, IfOk, IfErr, IfSome, IfNone, string_bytes};
 ghost use Rattle.std.specs.IoError.{error_kind};
 ghost use Rattle.tsc_config.specs.Values.{InRange};
@@ -38,6 +38,7 @@ pub enum ReadFault {
 
 /// What the file holds, or of a file that is too long one byte more than may be read.
 pub fn read_file<T: Files>(rt: &T, alloc: Global, path: &str) -> Result<Vec<u8>, FileFault> {
+    // No clause can say what a file holds, so all that is made of it stands apart, and is exact (D-219).
     match fs::open(rt, path) {
         Ok(file) => told(read_start(alloc, file)),
         Err(error) => told(Err(error)),
@@ -49,6 +50,7 @@ fn read_start<F: Read + Drop>(alloc: Global, file: F) -> io::Result<Vec<u8>>
     ensures { IfOk result (λ bytes. IsStart (F.Read.remaining file) bytes.items) }
 {
     let mut bytes = Vec::new(alloc);
+    // One byte more tells a file that is too long from one that just fits.
     file.take(MAX_CONFIG_LEN as u64 + 1)
         .read_to_end(&mut bytes)?;
     Ok(bytes)
@@ -84,7 +86,7 @@ fn read_fault(kind: ErrorKind) -> ReadFault
     }
 }
 
-/// The configuration in what was read of its file.
+/// The configuration in what was read from its file.
 pub fn config_of(alloc: Global, file: Result<Vec<u8>, FileFault>) -> Result<Config, Outcome>
     ensures ranges { IfOk result InRange }
     ensures is_read { IfOk result (IsConfigOf (file_of (λ v. v.items) file)) }

@@ -126,6 +126,7 @@ pub fn say_refused<W: Write + Drop, R: Clock>(
     path: &str,
     outcome: &Outcome,
 ) {
+    // Its form isn't known: it stands in the configuration that was refused (D-185).
     let mut events = EventWriter::new(errors, LogForm::Text);
     let fault = match outcome {
         Outcome::Configuration(fault) => number("fault", fault.number() as u64),

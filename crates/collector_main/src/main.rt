@@ -39,7 +39,7 @@ fn main(rt: HostRuntime) -> ExitCode {
             rt.stdout(),
         ),
         Err(error) if error.kind() == ErrorKind::OutOfMemory => (without_memory(rt.stdout()), 5),
-        // One isn't UTF-8.
+        // An argument that isn't UTF-8 is a wrong one (D-238).
         Err(_) => program(
             &rt,
             rt.alloc(),

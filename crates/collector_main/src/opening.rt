@@ -26,7 +26,7 @@ use std::sync::{Arc, Wait};
 use std::{fs, io};
 use tsc_config::{Config, LogForm};
 
-/// A copy of what was read of the configuration's file, for those in charge, and nothing where it wasn't read.
+/// A copy of what was read from the configuration's file, for those in charge, and nothing where it wasn't read.
 pub fn copy_of(alloc: Global, file: &Result<Vec<u8>, FileFault>) -> Result<String, AllocError>
     ensures { IfOk result (λ copy. (bytes : List ℕ) → file_of (λ v. v.items) file.now ≡ Ok bytes → IsUtf8 bytes → string_bytes copy ≡ bytes) }
 {
@@ -94,6 +94,7 @@ pub fn watches<
         );
         return Err(error);
     }
+    // Without a log, too, where numbers are told: it counts the jumps of the clock.
     if config.log != LogForm::Off || is_told(config) {
         let watched = EventWriter::new(errors, config.log);
         start_log_watch(rt, alloc, watched, Arc::try_clone(charge)?)?;
@@ -182,6 +183,7 @@ pub fn opened<
     answers_at(rt, alloc, admin, Access::Full, charge, events)?;
     let metrics = config.metrics.as_str();
     if let Err(error) = answers_at(rt, alloc, metrics, Access::Numbers, charge, events) {
+        // The other address may have made its socket's file already.
         end_admin(rt, admin);
         return Err(error);
     }

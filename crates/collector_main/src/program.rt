@@ -126,6 +126,7 @@ pub fn program<
 ) -> (Writer, u8)
     ensures { Ends (map string_bytes arguments.now) (Input.Read.remaining around.input) (Script.given reader.old) (Script.given reader.new) (Writer.contents writer) (Writer.contents result.0) result.1 }
 {
+    // Before the arguments are looked at, so that each outcome can be told (D-238).
     let Ok(mut text) = Vec::with_capacity(alloc, TEXT_ROOM) else {
         return (without_memory(writer), 5);
     };
@@ -230,7 +231,7 @@ fn run<
     }
 }
 
-/// Runs the script by the configuration in what was read of its file.
+/// Runs the script by the configuration in what was read from its file.
 fn replay_by<R: Source, W: Write>(
     alloc: Global,
     file: Result<Vec<u8>, FileFault>,
@@ -277,6 +278,7 @@ fn say<S: Sink>(lines: &mut LineSink<S>, text: &mut Vec<u8>, outcome: &Outcome) 
     match outcome {
         Outcome::Done(report) => say_report(lines, text, report),
         Outcome::SinkDown => true,
+        // The line names these two alone; `tsc help` has them all (D-242).
         Outcome::Usage => {
             hand_line(
                 lines,

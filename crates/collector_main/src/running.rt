@@ -52,6 +52,7 @@ fn print_with<'s, T: Net + Machine, W: Write + Drop>(
     requires { InRange config }
     ensures { PrintsTo config (W.contents writer) (W.contents result.0) result.1 }
 {
+    // Made before the run: a lane that can't watch its connections is an address that can't be listened at (D-175).
     let drivers = match drivers(rt, alloc, &config, listener, &shared.loads, &shared.stop) {
         Ok(drivers) => drivers,
         Err(error) if error.kind() == ErrorKind::OutOfMemory => return (writer, Outcome::NoMemory),

@@ -49,6 +49,7 @@ pub fn send_with<'s, T: Net<Listener = TcpListener, Stream = TcpStream> + Machin
     let Ok(headers) = config.export.headers.try_clone(alloc) else {
         return (writer, Outcome::NoMemory);
     };
+    // No address that was read is known to come here (D-189).
     let Some(endpoint) = endpoint_of(address.as_str()) else {
         return (writer, Outcome::CannotListen);
     };
@@ -170,6 +171,7 @@ fn serve_through<'s, D: Driver + Send + Drop, T: Machine, Output: Destination + 
     ensures ran { CoreRunTellsTo Output.manner config (Output.state destination).taken (Output.state destination).failures (Output.state result.0).taken (Output.state result.0).failures result.1 }
 {
     let clock = SteadyClock::new(rt);
+    // The queue before the backend is the exporter's (D-206).
     let config = with_export_room(config);
     let context = RunContext {
         rt,

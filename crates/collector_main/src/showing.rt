@@ -15,6 +15,7 @@ pub fn show_by<I: Read + Drop, E: Write + Drop>(
     ensures { InputShows (I.Read.remaining around.input) result }
 {
     let outcome = shown_of(alloc, read_body(alloc, around.input));
+    // On standard error, so that what reads the line of JSON gets nothing else (D-243).
     say_refusal(around.errors, &outcome);
     outcome
 }
@@ -27,7 +28,7 @@ fn say_refusal<E: Write + Drop>(errors: E, outcome: &Outcome) {
     }
 }
 
-/// What is shown of what was read of a body.
+/// What is shown of what was read from a body.
 fn shown_of(alloc: Global, body: Result<Vec<u8>, BodyFault>) -> Outcome
     ensures { BodyShows (body_of (λ v. v.items) body) result }
 {

@@ -9,7 +9,7 @@ use config_faults::ConfigFault;
 use config_findings::{AddressFinding, ConfigFinding, faults};
 use std::alloc::{AllocError, Global};
 
-/// What is told of the configuration in what was read of its file.
+/// What is told of the configuration in what was read from its file.
 pub fn told_of(alloc: Global, path: &str, file: Result<Vec<u8>, FileFault>) -> Outcome
     ensures { FileTells (file_of (λ v. v.items) file) result }
 {
@@ -73,6 +73,7 @@ fn told_in(alloc: Global, text: &str) -> Result<Outcome, AllocError>
     ensures { IfOk result (TextTells text.now) }
 {
     let all = faults(alloc, text)?;
+    // An address that can't be one is no fault, since a replay has no use for it; it is told behind them (D-224).
     if all.faults.is_empty() && all.addresses.is_empty() {
         return Ok(Outcome::Valid);
     }

@@ -8,12 +8,12 @@ pub record MemoryState : Type 0 where
   pub most : ℕ
   pub release : ℕ
 
--- of so many spans that waited when the process grew to this size, so many may still wait: an eighth fewer, and half of
+-- how many spans may still wait, where `waiting` did when the process grew to this size: an eighth fewer, and half of
 -- them once it is an eighth beyond its limit
 abbrev pub release_of : (limit taken waiting : ℕ) → ℕ
 release_of limit taken waiting = if nat_le taken (limit + limit / 8) then waiting - waiting / 8 else waiting / 2
 
--- the state once the process takes so much while so many spans wait: freed memory is used again before the process
+-- the state once the process takes `taken` while `waiting` spans wait: freed memory is used again before the process
 -- grows, so only its growth counts
 abbrev pub memory_after : MemoryState → (taken waiting : ℕ) → MemoryState
 memory_after state taken waiting =

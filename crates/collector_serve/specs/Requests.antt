@@ -14,7 +14,7 @@ parts_of field = (field.name, field.value)
 abbrev pub request_fields : (authority : List ℕ) → Encoding → List HeaderField → List Header
 request_fields authority encoding headers = (codes "Host", authority) ∷ (codes "Content-Type", media_type encoding) ∷ map parts_of headers
 
--- a shard's share of so many full batches in spans, rounded down, and at least so many spans
+-- a shard's share of this number of full batches, in spans, rounded down, and at least `spans`
 abbrev pub room_of : (batches size shards spans : ℕ) → ℕ
 room_of batches size shards spans = max (min (batches * size) (2 ^ 64 - 1) / shards) spans
 

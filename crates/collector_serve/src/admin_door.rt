@@ -12,16 +12,16 @@ use std::rt::Files;
 use std::time::Duration;
 use std::{fs, io};
 
-/// What an address begins with that is the path of a socket's file.
+/// The beginning of an address that is the path of a socket's file.
 const UNIX: &str = "unix:";
 
 /// Who may use a socket's file: its owner.
 const OWNER: u32 = 0o600;
 
-/// How long a read waits for one who asks, in milliseconds.
+/// The longest wait of a read for one who asks, in milliseconds.
 const READ_TIMEOUT: u64 = 100;
 
-/// How long a write waits for one who asks, in milliseconds.
+/// The longest wait of a write for one who asks, in milliseconds.
 const WRITE_TIMEOUT: u64 = 1_000;
 
 /// What takes connections.
@@ -59,7 +59,7 @@ impl Door {
         }
     }
 
-    /// The next connection, whose reads and writes wait only so long.
+    /// The next connection, whose reads and writes wait no longer than these limits.
     pub fn next(&self) -> io::Result<Peer> {
         let read_limit = Some(Duration::from_millis(READ_TIMEOUT));
         let write_limit = Some(Duration::from_millis(WRITE_TIMEOUT));
@@ -131,6 +131,7 @@ pub fn socket_path(address: &str) -> Option<&str> {
 /// Listens at a socket's file that only its owner may use. It takes the place of one that is left of a collector which
 /// has ended; one at which there is still somebody is left alone.
 fn bind_socket<R: Net + Files>(rt: &R, alloc: Global, path: &str) -> io::Result<UnixListener> {
+    // A socket's file at which somebody answers isn't replaced (D-194).
     if UnixStream::connect(rt, path).is_ok() {
         return Err(io::ErrorKind::AddrInUse.into());
     }
@@ -139,6 +140,7 @@ fn bind_socket<R: Net + Files>(rt: &R, alloc: Global, path: &str) -> io::Result<
     new.push_str(".new")?;
     let _ = fs::remove_file(rt, new.as_str());
     let listener = UnixListener::bind(rt, new.as_str())?;
+    // Before it gets its name, so that it is never open to others (D-194).
     fs::set_permissions(rt, new.as_str(), Permissions::from_mode(OWNER))?;
     fs::rename(rt, new.as_str(), path)?;
     Ok(listener)

@@ -14,10 +14,10 @@ use std::thread::{JoinHandle, Threads};
 use std::time::{Clock, Duration, Instant};
 use std::{io, thread};
 
-/// So many connections of an address are answered at once; each has a thread of its own.
+/// The most connections of an address that are answered at once; each has a thread of its own.
 const AT_ONCE: usize = 64;
 
-/// How long it is waited where no connection can be taken, in milliseconds.
+/// The pause where no connection can be taken, in milliseconds.
 const PAUSE: u64 = 1_000;
 
 /// A connection, and the thread that answers it.
@@ -112,6 +112,7 @@ impl Reception {
         if has_room(self.visits.len()) {
             return;
         }
+        // So clients that say nothing keep nobody waiting (D-190).
         if let Some(oldest) = self.visits.pop_front() {
             oldest.visit.end();
             oldest.thread.join(rt);
@@ -119,7 +120,7 @@ impl Reception {
     }
 }
 
-/// Whether one more may be answered while so many are.
+/// Whether one more may be answered while `count` are.
 fn has_room(count: usize) -> bool
     ensures { result ≡ nat_lt count AT_ONCE }
 {

@@ -188,6 +188,7 @@ fn read_to_end<I: Read + Drop, R: Wait>(rt: &R, input: I, charge: &Charge) {
     let mut input = input;
     let mut piece = [0; 4096];
     for _ in rt.forever() {
+        // A read that fails is an end, too (D-174).
         match input.read(&mut piece) {
             Ok(n) if n > 0 => {}
             Err(error) if error.kind() == io::ErrorKind::Interrupted => {}

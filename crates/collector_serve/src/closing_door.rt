@@ -12,19 +12,19 @@ use std::thread::{JoinHandle, Threads};
 use std::time::{Clock, Duration};
 use std::{io, thread};
 
-/// So long lies between two looks whether the collector closes, and between two looks at those who connected once it
-/// does, in milliseconds.
+/// The time between two looks whether the collector closes, in milliseconds.
 const PAUSE: u64 = 100;
 
+/// The time between two looks at those who connected once it does, in milliseconds.
 const CLOSING_PAUSE: u64 = 20;
 
-/// A client of whom nothing came is answered at this look, and none is waited for beyond that one: a fifth of a second,
-/// and a second.
+/// The look at which a client from whom nothing came is answered: after a fifth of a second.
 const ANSWER_LOOKS: u32 = 10;
 
+/// The last look at a client: after a second.
 const MOST_LOOKS: u32 = 50;
 
-/// So many pieces of 4,096 bytes are read of a client at a look at most, and so many clients are taken.
+/// The most pieces of 4,096 bytes that are read from a client at a look, and the most clients that are taken at one.
 const MOST_AT_ONCE: u32 = 256;
 
 /// A client who connected as the collector closes.
@@ -35,7 +35,7 @@ struct LateClient {
     is_answered: bool,
 }
 
-/// What came of a client at a look.
+/// What came from a client at a look.
 #[derive(Clone, Copy, PartialEq, Eq)]
 enum Came {
     Nothing,
@@ -44,8 +44,8 @@ enum Came {
 }
 
 impl LateClient {
-    /// Reads what is there, answers once something came or it was waited for long enough, and says whether it is waited
-    /// on: what a client still sends is read, so that the answer isn't taken back.
+    /// Reads what is there, answers once something came or enough looks were made, and says whether the client is
+    /// looked at again: what it still sends is read, so that the answer isn't taken back.
     fn look(&mut self, text: &[u8], traffic: &Traffic) -> bool {
         self.looks = self.looks.saturating_add(1);
         let came = self.read_all(traffic);
@@ -97,6 +97,7 @@ impl ClosingDoor {
         listener: &TcpListener,
         charge: Arc<Charge, Global>,
     ) -> io::Result<Self> {
+        // The lanes' listener, from which they take nobody any more while traces are decided and sent (D-177).
         let listener = listener.try_clone()?;
         let own = *rt;
         let thread = thread::spawn(rt, move || stand(&own, alloc, &listener, &charge))?;
@@ -117,12 +118,14 @@ impl ClosingDoor {
 
 /// Looks again and again, until the run is over.
 fn stand<R: Wait + Clock>(rt: &R, alloc: Global, listener: &TcpListener, charge: &Charge) {
+    // Made at the start, since later there may be no memory for it.
     let Ok(text) = stopping_text(alloc) else {
         return;
     };
     let mut clients = Vec::new(alloc);
     let mut last_looks: u32 = 0;
     for _ in rt.forever() {
+        // Asked before clients are taken, so that those who came before the end are answered.
         let is_over = charge.over.is_set();
         if !is_over && !charge.stop.is_set() {
             thread::sleep(rt, Duration::from_millis(PAUSE));

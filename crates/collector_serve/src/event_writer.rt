@@ -30,6 +30,7 @@ impl<W: Write + Drop> EventWriter<W> {
         event: &str,
         fields: &[LogField<'_>],
     ) -> bool {
+        // Not the run's clock: a line of the log is compared with other logs (D-185).
         let moment = WallClock::new(rt).now();
         match line_of(alloc, self.form, moment, level, event, fields) {
             Ok(Some(line)) => self.writer.write_all(line.as_bytes()).is_ok(),

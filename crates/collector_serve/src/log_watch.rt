@@ -17,7 +17,7 @@ use std::thread::Threads;
 use std::time::{Clock, Duration};
 use std::{io, thread};
 
-/// So long lies between two looks, in milliseconds.
+/// The time between two looks, in milliseconds.
 const PAUSE: u64 = 500;
 
 /// What may begin and be over again: what is said at its beginning, at its end, and of what it tells the number.
@@ -67,6 +67,7 @@ pub fn start_log_watch<
     W: Write + Send + Drop + 'static,
     R: Threads + Wait + Clock + Copy + Send + 'static,
 >(rt: &R, alloc: Global, events: EventWriter<W>, charge: Arc<Charge, Global>) -> io::Result<()> {
+    // A thread of its own, so that none of the run waits for standard error (D-185).
     let own = *rt;
     let _runs_on = thread::spawn(rt, move || watch(&own, alloc, events, &charge))?;
     Ok(())
@@ -89,6 +90,7 @@ fn watch<W: Write + Drop, R: Wait + Clock>(
         if let Some(apart) = jump_of(wall, now) {
             charge.board.jumps();
             say_jump(rt, alloc, &mut events, charge, apart, wall);
+            // From the clock as it is now, so that one jump is told once.
             steady = SteadyClock::new(rt);
         }
         look_at_numbers(rt, alloc, &mut events, charge, &mut known, now);
@@ -166,6 +168,7 @@ fn look_at_numbers<W: Write + Drop, R: Clock>(
     known: &mut Known,
     now: u64,
 ) {
+    // What began and was over between two looks is told by the numbers alone (D-185).
     let numbers = numbers_of(charge);
     for at in 0..7 {
         let grows = known.numbers[at] < numbers[at];

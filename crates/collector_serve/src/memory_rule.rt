@@ -10,7 +10,7 @@ pub struct MemoryRule {
     limit: u64,
     /// The most that it took since it went beyond the limit.
     most: u64,
-    /// So many spans may wait again before requests are taken.
+    /// The most spans that may wait when requests are taken again.
     release: u64,
 }
 
@@ -23,7 +23,7 @@ impl Model for MemoryRule {
 }
 
 impl MemoryRule {
-    /// Of a process that may take so many bytes.
+    /// For a process that may take at most `limit` bytes.
     pub fn new(limit: u64) -> Self
         ensures { result ≡ record { limit = limit; most = limit; release = 0 } }
     {
@@ -34,7 +34,7 @@ impl MemoryRule {
         }
     }
 
-    /// Whether requests are refused, now that the process takes so many bytes and so many spans wait. Once it went
+    /// Whether requests are refused, now that the process takes `taken` bytes and `waiting` spans wait. Once it went
     /// beyond its limit that is so until fewer spans wait, since what is freed is used again before the process grows.
     pub fn is_short(&mut self, taken: u64, waiting: u64) -> bool
         ensures state { self.new ≡ memory_after self.old taken waiting }
@@ -47,11 +47,12 @@ impl MemoryRule {
             self.most = taken;
             self.release = release_of(self.limit, taken, waiting);
         }
+        // What is freed goes back to the allocator and not to the system, so the spans that wait are looked at (D-173).
         self.limit < taken && self.release < waiting
     }
 
-    /// Whether no more spans are to be kept where requests are refused, now that the process takes so many bytes and so
-    /// many spans wait: it is more than an eighth beyond its limit, and as many wait as when it grew so far.
+    /// Whether no more spans are to be kept where requests are refused, now that the process takes `taken` bytes and
+    /// `waiting` spans wait: it is more than an eighth beyond its limit, and as many wait as when it grew so far.
     pub fn is_shorter(&self, taken: u64, waiting: u64) -> bool
         ensures { result ≡ is_shorter self.now taken waiting }
     {
@@ -59,7 +60,7 @@ impl MemoryRule {
     }
 }
 
-/// So many spans may wait again, of so many that waited when the process grew to this size.
+/// The most spans that may wait again, where `waiting` did when the process grew to this size.
 fn release_of(limit: u64, taken: u64, waiting: u64) -> u64
     ensures { result ≡ release_of limit taken waiting }
 {

@@ -18,14 +18,15 @@ const PAGE: u64 = 4096;
 /// A mebibyte.
 const MEBIBYTE: u64 = 1_048_576;
 
-/// So long lies between two looks at most, and at least, in milliseconds.
+/// The longest time between two looks, in milliseconds.
 const MOST_PAUSE: u64 = 100;
 
+/// The shortest time between two looks, in milliseconds.
 const LEAST_PAUSE: u64 = 2;
 
-/// Starts a thread that tells what the process takes by this account, and refuses requests while it is more than so
-/// many mebibytes, where 0 is no limit. It ends with the program. `Err`: the account can't be read, or there can be no
-/// thread.
+/// Starts a thread that tells what the process takes by this account, and refuses requests while it is more than
+/// `limit_mib` mebibytes, where 0 is no limit. It ends with the program. `Err`: the account can't be read, or there can
+/// be no thread.
 pub fn start_memory_watch<
     F: Read + Seek + Send + Drop + 'static,
     R: Threads + Wait + Clock + Copy + Send + 'static,
@@ -59,7 +60,7 @@ fn watch<F: Read + Seek + Drop, R: Wait + Clock>(rt: &R, limit: u64, account: F,
     }
 }
 
-/// How long it takes until the next look: the shorter the less may still be taken. A process doesn't grow by more than
+/// The time until the next look: the shorter the less may still be taken. A process doesn't grow by more than
 /// two mebibytes in a millisecond.
 fn pause_before(limit: u64, taken: u64) -> u64 {
     let left = limit.saturating_sub(taken) / MEBIBYTE / 2;
@@ -68,6 +69,7 @@ fn pause_before(limit: u64, taken: u64) -> u64 {
 
 /// The bytes of memory that the process takes, by this account.
 fn bytes_taken<F: Read + Seek>(account: &mut F) -> io::Result<u64> {
+    // The system's account has whatever takes memory, the allocator's gaps too (D-173).
     account.seek(SeekFrom::Start(0))?;
     let mut text = [0; 128];
     let len = account.read(&mut text)?;

@@ -28,6 +28,7 @@ pub fn request_fields<'t>(
         name: b"Content-Type",
         value: encoding.media_type().as_bytes(),
     })?;
+    // A configuration with one that would override these is refused (D-207).
     for header in headers {
         fields.push(Header {
             name: header.name.as_str().as_bytes(),
@@ -37,19 +38,20 @@ pub fn request_fields<'t>(
     Ok(fields)
 }
 
-/// How many spans wait between a shard and the backend: the shard's share of so many full batches, and at least
-/// `export_capacity`.
+/// How many spans wait between a shard and the backend: the shard's share of `queue_batches` full batches, and at
+/// least `export_capacity`.
 fn export_room(config: &Config) -> usize
     requires shards { 0 < config.now.shards }
     requires capacity { 0 < config.now.export_capacity }
     ensures room { result ≡ export_room config.now }
     ensures some { 0 < result }
 {
+    // The exporter's queue is the one before the backend: a second one would hold lines twice (D-206).
     let spans = (config.export.queue_batches as usize).saturating_mul(config.send_batch_size);
     (spans / config.shards).max(config.export_capacity)
 }
 
-/// The configuration of a run whose lines are sent: so many spans wait for the backend.
+/// The configuration of a run whose lines are sent, with that room for spans that wait for the backend.
 pub fn with_export_room(config: Config) -> Config
     requires { InRange config }
     ensures room { result ≡ record config { export_capacity = export_room config } }

@@ -115,6 +115,7 @@ fn share(connections: usize, lanes: usize) -> usize
     requires { 0 < lanes }
     ensures { result ≡ share_of connections lanes }
 {
+    // Rounded down, and at least one each, so that no lane asks another (D-178).
     if lanes <= connections {
         connections / lanes
     } else {
@@ -126,10 +127,12 @@ fn share(connections: usize, lanes: usize) -> usize
 fn allowed_by(config: &Config) -> Allowed
     ensures { result ≡ allowed_by config.now }
 {
+    // One limit for what comes and for what it unpacks to (D-186).
     let bytes = config.max_request_mib.saturating_mul(MEBIBYTE);
     Allowed {
         gzip: config.accept_gzip,
         protobuf: config.accept_protobuf,
+        // With an `admin` address `/close` is a path like any other here (D-190).
         close: config.admin.as_str().is_empty(),
         body_limit: u32::try_from(bytes).unwrap_or(u32::MAX),
     }
@@ -157,6 +160,7 @@ pub fn drivers<'l, P: HasStopMark, R: Net + Clock>(
     for lane in 0..lanes {
         let loads = Arc::try_clone(loads)?;
         let share = ConnectionShare { limit, loads, lane };
+        // Made before the lanes run, so that no run ends for want of files at its start (D-175).
         let driver = TurnDriver::new(rt, alloc, listener, stop, share)?;
         drivers.push(ByTurns { driver, allowed })?;
     }

@@ -32,6 +32,7 @@ impl<'r, R: Clock> Moments for SteadyClock<'r, R> {
         let Some(began) = self.began else {
             return WallClock::new(self.rt).now();
         };
+        // A wall clock that is set moves no moment, so nothing is decided late or early by it (D-183).
         match began.elapsed(self.rt) {
             Ok(passed) => moment_after(self.start, passed),
             Err(_) => self.start,
@@ -39,7 +40,7 @@ impl<'r, R: Clock> Moments for SteadyClock<'r, R> {
     }
 }
 
-/// The moment at which so much time has passed since the start, at most 2^64-1.
+/// The moment at which this time has passed since the start, at most 2^64-1.
 fn moment_after(start: u64, passed: Duration) -> u64
     ensures { result ≡ moment_after start (as_nanos passed) }
 {

@@ -1,4 +1,4 @@
-//! One connection at an address for those in charge: it is answered once, and takes only so long.
+//! One connection at an address for those in charge: it is answered once, and its time is limited.
 ghost use Rattle.std.specs.Prelude.{◌≡◌, None, nat_le};
 
 use crate::admin_door::Peer;
@@ -11,12 +11,13 @@ use std::net::Shutdown;
 use std::sync::atomic::{AtomicBool, Ordering};
 use std::time::{Clock, Instant};
 
-/// So long a connection may take in all, in milliseconds.
+/// The longest time that a connection may take in all, in milliseconds.
 const VISIT_LIMIT: u64 = 10_000;
 
-/// So many pieces of 4,096 bytes are read behind an answer at most, and so often it is waited for one.
+/// The most pieces of 4,096 bytes that are read behind an answer.
 const LINGER_PIECES: u32 = 1024;
 
+/// The most reads in a row that may bring nothing behind an answer.
 const LINGER_WAITS: u32 = 5;
 
 /// A connection that is answered by a thread of its own, and that others may end.
@@ -95,7 +96,7 @@ impl<'v, R: Clock> VisitEnd<'v, R> {
     }
 }
 
-/// Whether a connection that takes so many milliseconds takes too long.
+/// Whether a connection after this number of milliseconds takes too long.
 fn is_too_long(passed: u64) -> bool
     ensures { result ≡ nat_le VISIT_LIMIT passed }
 {
@@ -124,7 +125,7 @@ impl<'v, R: Clock> Write for VisitEnd<'v, R> {
     }
 }
 
-/// Reads what is still sent, for a while and so many pieces at most, so that the answer isn't taken back.
+/// Reads what is still sent, for a while and at most `LINGER_PIECES` pieces, so that the answer isn't taken back.
 fn linger<P: Read>(reader: &mut P) {
     let mut piece = [0; 4096];
     let mut quiet: u32 = 0;

@@ -14,6 +14,7 @@ use toml::{Table, Value};
 pub fn order_fault(join: Join, settings: &Table) -> Option<ConfigFault>
     ensures { result ≡ faults.order_fault join (table_view settings.now) }
 {
+    // The processor's code goes by the order of the parts, its README by `policy_order`: both have to agree (D-037).
     match join {
         Join::FirstMatch if !is_ordered(settings) => Some(ConfigFault::OutOfRange),
         _ => None,

@@ -37,6 +37,7 @@ pub fn twice_fault(table: &Table) -> Option<ConfigFault>
 {
     let (name, ..) = NumberKey::RootWait.row();
     let (other_name, ..) = NumberKey::RootReceived.row();
+    // Neither name is more right, so a table with both is refused whatever stands there (D-072).
     if member(table, name).is_some() && member(table, other_name).is_some() {
         Some(ConfigFault::UnknownKey)
     } else {

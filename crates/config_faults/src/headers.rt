@@ -14,6 +14,7 @@ use toml::{Table, Value};
 fn may_be_sent(name: &[u8], value: &[u8]) -> bool
     ensures { result ≡ spec.may_be_sent name.now value.now }
 {
+    // None may say where a request goes, what its body is or how it is sent (D-207).
     is_token(name) && is_trimmed(value) && !is_own_name(name)
 }
 

@@ -24,6 +24,7 @@ fn ten_thousandths(percentage: f64) -> Option<u32>
     ensures { result ≡ spec.ten_thousandths percentage }
 {
     let ten_thousand = f64::from(10_000u32);
+    // Found by a multiplication, and taken where the division gives the very float that was read (D-042).
     let count = saturating_f64_to_u32((percentage * ten_thousand).round());
     if count <= 1_000_000 && f64::from(count) / ten_thousand == percentage {
         Some(count)

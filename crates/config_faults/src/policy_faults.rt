@@ -95,6 +95,7 @@ fn sub_policies_fault(join: Join, table: &Table) -> Option<ConfigFault>
 fn sub_value_fault(join: Join, value: &Value) -> Option<ConfigFault>
     ensures { result ≡ spec.sub_value_fault join (view value.now) }
 {
+    // A `not` has one policy, so an array there is of a wrong type (D-038).
     match (join, value) {
         (Join::Not, Value::Table(table)) => policy_table_fault(
             table,

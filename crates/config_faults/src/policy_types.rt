@@ -99,6 +99,7 @@ impl PolicyType {
                 Setting::Required("values", ValueKind::Array(ItemKind::Text)),
                 Setting::Optional("invert_match", ValueKind::Truth),
                 Setting::Optional("enabled_regex_matching", ValueKind::Truth),
+                // Without effect: configurations of the processor have it (D-047).
                 Setting::Optional("cache_max_size", NATURAL),
             ],
             PolicyType::NumericAttribute => &[

@@ -194,6 +194,7 @@ fn door_fault_of(text: &[u8]) -> Option<AddressFault>
             } else if is_address(text) {
                 None
             } else if *first == b'/' || *first == b'.' {
+                // It looks like a path, in front of which `unix:` was forgotten.
                 Some(AddressFault::PathAlone)
             } else {
                 Some(AddressFault::NoDoor)

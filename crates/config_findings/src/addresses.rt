@@ -21,6 +21,7 @@ pub fn is_backend(text: &[u8]) -> bool
     match behind_last(text) {
         Some(port) => {
             let host = &text[..text.len() - port.len() - 1];
+            // At port 0 the system lets one listen, at a port of its own choice; nothing can be sent there.
             is_port(port) && !are_zeros(port) && !host.is_empty() && is_host(host)
         }
         None => false,
@@ -162,6 +163,7 @@ fn is_in_address(byte: u8) -> bool
 fn is_name(text: &[u8]) -> bool
     ensures { result ≡ spec.is_name text.now }
 {
+    // By its bytes alone: what passes here the system may refuse all the same (D-224).
     text.iter().all(|byte| {
         byte.is_ascii_alphanumeric()
             || *byte == b'-'

@@ -60,6 +60,7 @@ fn place_behind(before: &[u8]) -> (usize, usize)
             line += 1;
             column = 1;
         } else if *first < 128 || *first >= 192 {
+            // A byte that begins a character; the others of UTF-8 go on with one.
             column += 1;
         }
         left = rest;
@@ -202,6 +203,7 @@ pub fn item_text(
 
 /// The text that the order of a composite with these settings is another one than that of its parts.
 pub fn order_text(alloc: Global, place: &str, settings: &Table) -> Result<String, AllocError> {
+    // Told all the same: `serve` refuses the text by the least fault, which may be this one (D-222).
     let follows = if order_follows(settings) { FOLLOWS } else { "" };
     format!(in alloc;
         "{place}.policy_order: not the names of composite_sub_policy, as they stand there{follows}"

@@ -64,6 +64,7 @@ impl Findings {
         ensures { IfOk result (λ found. spec.faults_in found.items ≡ self ++ replicate (length big.items) ExpressionTooBig) }
     {
         let mut found = self.list;
+        // Apart until here, so that what finds these can neither lose nor add a fault (D-211).
         for said in big {
             found.push(ConfigFinding {
                 fault: ConfigFault::ExpressionTooBig,

@@ -42,6 +42,7 @@ fn new_shard(alloc: Global, hashing: TraceHashing, config: &Config) -> Result<Sh
         num_traces: config.traces_per_shard(),
         sampled_cache_size: config.sampled_cache_per_shard(),
         non_sampled_cache_size: config.non_sampled_cache_per_shard(),
+        // The lanes, and the ticker, which has the number of lanes (D-094).
         senders: config.lanes as usize + 1,
     };
     Shard::new(alloc, policies, setup)

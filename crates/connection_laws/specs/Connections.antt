@@ -7,7 +7,8 @@ use Rattle.http_lane.specs.declared.answer.ServeEnd.{ServeEnd}
 use Rattle.http_lane.specs.declared.answer.ServeEnd.TheVariants.{Closed, Cut, Quiet, ReadFault, WriteFault, NoMemory}
 use Rattle.http_lane.specs.declared.turns.Exchange.{Exchange}
 use Rattle.http_lane.specs.Connection.{RequestReading, in_head, is_between, timed_out, ConnectionEvent, Settles, Submission, submissions, text_of_all}
-use Rattle.http_lane.specs.Intake.{Submits, additions_of}
+use Rattle.http_lane.specs.Intake.{Submits}
+use Rattle.lane_seq.specs.Counting.{additions_of}
 use Rattle.http_lane.specs.Agreement.{AgreeAsFar}
 use Rattle.http_lane.specs.Turns.{Coming, came, unkept, nothing, over, read_failed, write_failed, dismissed, Waiting, came_at, Turned, Turns}
 use Rattle.http_lane.specs.TurnAgreement.{bytes_that_came, events_then}

@@ -13,7 +13,7 @@ NoneWasQuiet (round ∷ rounds) =
     (((bytes : List ℕ) × (round.turn ≡ gave bytes)) ⊎ (round.turn ≡ interrupted)) × NoneWasQuiet rounds
 
 -- what a lane says of a body beside what stands in the body: memory or numbers for its spans were wanting, or the ports
--- refused so many of its pushes
+-- refused a number of its pushes
 pub data Said : Type 0 where
   wanting : Said
   refusing : ℕ → Said

@@ -1,19 +1,17 @@
 //! One connection of a lane: requests are read by RFC 9112 and answered in order, over any reader and writer.
 //!
-//! [`serve`] is the whole of it. The bytes that it writes, the bodies that it hands to the lane, the counts and how it
-//! ends are those of the connection's transcript (`specs/Connection`), in whatever pieces the bytes came.
+//! An [`Exchange`] is a connection among many, which has its turns: so the program serves. [`serve`] takes one by
+//! itself to its end: so tests do. The bytes that are written, the bodies that go to the lane, the counts and the end
+//! are those of a transcript (`specs/Connection`, `specs/Turns`), in whatever pieces the bytes came.
 //!
 //! ```
 //! let lent = Lent { alloc, stop: &mark, clock: &clock };
 //! let mut reader = Reads { reader: stream, allowed };
 //! let end = serve(&lent, &mut lane, &mut report, &mut reader, &mut writer);
 //! ```
-//!
-//! An [`Exchange`] is the same connection turn by turn, among many.
 #![tactic(auto)]
 
 mod answer;
-mod counting;
 mod engine;
 mod input;
 mod laws;

@@ -10,7 +10,6 @@ ghost use Rattle.http_lane.specs.Connection.{end_with, ConnectionStanding, in_he
 ghost use Rattle.http_lane.specs.declared.answer.ServeEnd.TheVariants.{Closed, Cut};
 
 use crate::answer::{Brought, EventFate, QUIET_LIMIT, READ_LIMIT, ReadTurn, SLOW_LIMIT, ServeEnd};
-use crate::counting::count;
 use crate::engine::Engine;
 use crate::lent::{Clock, HasStopMark, Lent};
 use crate::reads::{PIECE_LIMIT, Source};
@@ -20,7 +19,7 @@ use http_answer::{Response, text_of};
 use http_text::RequestRefusal;
 use inflate::{GzipFault, gunzip};
 use lane_queue::Port;
-use lane_seq::{Conn, Lane, Reply};
+use lane_seq::{Conn, Lane, Reply, count_reply};
 use otlp_encoding::Encoding;
 use otlp_types::Item;
 use std::alloc::Global;
@@ -91,7 +90,7 @@ fn submit<
     ensures { (limit : ℕ) (is_packed : Bool) (body : List ℕ) → IsTextOf limit is_packed body text.now → Responds (Submits ShardPort.takes ShardPort.refuses) (Writer.contents writer.old) (Writer.contents writer.new) (intake lane.old conn.old (Ledger.counted counts.old)) (intake lane.new conn.new (Ledger.counted counts.new)) encoding limit is_packed (Some body) says_close result }
 {
     let reply = lane.submit(lent.alloc, conn, encoding, text, lent.clock.now());
-    if !count(counts, &reply) {
+    if !count_reply(counts, &reply) {
         return (says_close, EventFate::Uncounted);
     }
     let replied = Response::Replied {
@@ -118,7 +117,7 @@ fn unfit(fault: GzipFault) -> Response
     }
 }
 
-/// Unpacks a body and serves its text, which may have so many bytes.
+/// Unpacks a body and serves its text, which may have at most `limit` bytes.
 fn unpack<
     'l,
     ShardPort: Port<Item>,
@@ -139,6 +138,7 @@ fn unpack<
 ) -> (bool, EventFate)
     ensures { Responds (Submits ShardPort.takes ShardPort.refuses) (Writer.contents writer.old) (Writer.contents writer.new) (intake lane.old conn.old (Ledger.counted counts.old)) (intake lane.new conn.new (Ledger.counted counts.new)) encoding limit true (Some body.now) says_close result }
 {
+    // What gives no text closes the connection, as what can't be read by HTTP does (D-122).
     match gunzip(lent.alloc, body, limit as usize) {
         Ok(text) => submit(
             lent,
@@ -182,6 +182,7 @@ fn respond<
             answer(lent.alloc, encoding, writer, &Response::Starved),
         );
     };
+    // Asked once the body is whole, before it is unpacked and before the clock is asked (D-120, D-125).
     if lent.stop.is_set() {
         return (
             true,
@@ -216,6 +217,7 @@ fn act<
     ensures acts { (r : RequestReading) → Parser.stands engine.old r → Acts Parser.stands Parser.awaits (Submits ShardPort.takes ShardPort.refuses) (Writer.contents writer.old) (Writer.contents writer.new) (intake lane.old conn.old (Ledger.counted counts.old)) (intake lane.new conn.new (Ledger.counted counts.new)) r result engine.new }
     ensures less { IsOpenAfter result → Parser.left engine.new < Parser.left engine.old }
 {
+    // Before `advance`: once a body is whole the engine awaits the next head, and has JSON again (D-112).
     let encoding = engine.encoding();
     match engine.advance() {
         Brought::Nothing => None,
@@ -224,6 +226,7 @@ fn act<
             Some((true, answer(lent.alloc, encoding, writer, &refused), true))
         }
         Brought::Close => {
+            // Before the answer is made, so also where there is no memory for that (D-124).
             lent.stop.set();
             Some((
                 true,
@@ -305,14 +308,15 @@ fn settle_to_end<
     end
 }
 
-/// Whether so much has passed since a moment, of milliseconds or of quiet turns.
+/// Whether `limit` has passed since a moment, in milliseconds or in quiet turns.
 pub(crate) fn is_over(since: u64, limit: u64, now: u64) -> bool
     ensures { result ≡ nat_le (since + limit) now }
 {
+    // In 128 bits, since a moment and a limit may add up to more than 2^64-1.
     since as u128 + limit as u128 <= now as u128
 }
 
-/// Answers a request under way, of which nothing came, with 408 once so much has passed since a moment.
+/// Answers a request under way, of which nothing came, with 408 once `limit` has passed since a moment.
 pub(crate) fn lapse<W: Write>(
     alloc: Global,
     encoding: Encoding,
@@ -330,7 +334,7 @@ pub(crate) fn lapse<W: Write>(
     None
 }
 
-/// Deals with a quiet turn, the last of so many in a row.
+/// Deals with a quiet turn, the last of `row` in a row.
 fn wait<E: Engine, W: Write, S: HasStopMark>(
     alloc: Global,
     engine: &E,
@@ -388,6 +392,7 @@ fn serve_turns<
     let mut piece = [0; PIECE_LIMIT];
     let mut row = 0;
     for _ in 0..READ_LIMIT {
+        // Quiet turns in a row are neighbours: a piece breaks the row, and an interrupted read does too (D-126).
         match reader.turn(&mut piece) {
             ReadTurn::Gave(n) => {
                 row = 0;

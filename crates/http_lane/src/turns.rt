@@ -24,7 +24,7 @@ use otlp_types::Item;
 use std::alloc::Global;
 use std::io::Write;
 
-/// So many milliseconds without a byte end a connection between requests.
+/// The time without a byte that ends a connection between requests, in milliseconds (D-171).
 pub const IDLE_LIMIT: u64 = 60_000;
 
 /// A connection between two turns. It has a buffer only while a request is under way.
@@ -223,6 +223,7 @@ fn taken(
 fn kept(engine: Requests) -> Option<Requests>
     ensures { (r : RequestReading) → Awaits engine r → IfSome result (λ kept. Awaits kept r) }
 {
+    // What one large request took isn't held for as long as the lane lives (D-121).
     if engine.is_roomy() {
         return None;
     }

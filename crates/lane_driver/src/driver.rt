@@ -16,14 +16,13 @@ use std::net::{Net, TcpListener};
 use std::sync::Wait;
 use std::time::Clock;
 
-/// So many reads a connection has at a turn: a request of a hundred kilobytes that is there is read at one turn, so
-/// that its memory serves the next one.
+/// The most reads of a connection at a turn: a request of 100 kB is then read at one, and its memory serves the next.
 const READS: usize = 16;
 
-/// One that has been idle for less isn't closed because too many files are open, in milliseconds.
+/// The least idle time of a connection that may be closed since too many files are open, in milliseconds (D-170).
 const GRACE: u64 = 1_000;
 
-/// So long after the mark to stop was set requests that are under way may go on, in milliseconds.
+/// The longest time that requests under way have once the mark to stop is set, in milliseconds (D-177).
 const STOP_LIMIT: u64 = 1_000;
 
 /// What follows.
@@ -37,7 +36,7 @@ enum Follows {
     Waits,
 }
 
-/// Drives a lane by the readiness of its connections, which it takes of a listener that doesn't block. Several lanes
+/// Drives a lane by the readiness of its connections, which it takes from a listener that doesn't block. Several lanes
 /// may share the listener: each connection goes to one of them.
 #[derive(Drop)]
 pub struct TurnDriver<'l, P: HasStopMark> {
@@ -45,17 +44,17 @@ pub struct TurnDriver<'l, P: HasStopMark> {
     stop: &'l P,
     readiness: Readiness<'l>,
     links: Links,
-    /// So many of them are served before it is asked again which are ready.
+    /// How many of them are served before it is asked again which are ready.
     to_serve: usize,
     /// The place of the one that is being served, and how many reads it still has.
     current: Option<usize>,
     reads: usize,
     /// The place of the one of which the lane was told last.
     told: usize,
-    /// One that was taken of the listener, and one that the lane has but for which there is no link.
+    /// The socket that was taken from the listener; the key of a connection that the lane has without a link.
     arrived: Option<TcpStream>,
     orphan: Option<usize>,
-    /// Connections may wait, since this moment or not before it, and now so many more are taken.
+    /// Whether connections may wait at the listener, since when at the earliest, and how many more are taken now.
     may_take: bool,
     since: u64,
     to_take: usize,
@@ -124,7 +123,7 @@ impl<'l, P: HasStopMark> TurnDriver<'l, P> {
         }
     }
 
-    /// Serves the link at this place on.
+    /// Serves the link at this place on. What is to be sent goes before further reads.
     fn serve(&mut self, place: usize, piece: &mut [u8]) -> Follows
         ensures { (next : Next) → result ≡ Follows.Do next → FitsNext next (length piece.old) }
     {
@@ -159,7 +158,7 @@ impl<'l, P: HasStopMark> TurnDriver<'l, P> {
         Follows::On
     }
 
-    /// So many bytes came on the connection.
+    /// This number of bytes came on the connection.
     fn came(&mut self, place: usize, key: usize, len: usize) -> Follows
         ensures { result ≡ Follows.Do (Next.Came key len) }
     {
@@ -177,8 +176,8 @@ impl<'l, P: HasStopMark> TurnDriver<'l, P> {
         Follows::Do(Next::Leave { key, how })
     }
 
-    /// Takes a connection of the listener, unless as many as may be are open and none is idle. Where there is then one
-    /// too many, the one that has been idle longest leaves.
+    /// Takes a connection from the listener, unless as many as may be are open and none is idle. Where there is then
+    /// one too many, the one that has been idle longest leaves (D-178).
     fn take(&mut self, piece: &mut [u8]) -> Follows
         requires { 0 < length piece.old }
         ensures { (next : Next) → result ≡ Follows.Do next → FitsNext next (length piece.old) }
@@ -207,7 +206,7 @@ impl<'l, P: HasStopMark> TurnDriver<'l, P> {
         Follows::On
     }
 
-    /// Too many files are open, whether a connection waits or not: one that has been idle for a while leaves.
+    /// Too many files are open, whether a connection waits or not: one that has been idle for `GRACE` leaves (D-170).
     fn make_file(&mut self, piece: &mut [u8]) -> Follows
         requires { 0 < length piece.old }
         ensures { (next : Next) → result ≡ Follows.Do next → FitsNext next (length piece.old) }
@@ -218,7 +217,7 @@ impl<'l, P: HasStopMark> TurnDriver<'l, P> {
     }
 
     /// The connection that has been idle longest, and would be idle too long by this moment, leaves, unless bytes wait
-    /// on it: then it has its turn. Where there is none, none is taken for now.
+    /// on it that it wasn't told of yet: then it has its turn (D-170). Where there is none, none is taken for now.
     fn make_room(&mut self, piece: &mut [u8], by: u64) -> Follows
         requires { 0 < length piece.old }
         ensures { (next : Next) → result ≡ Follows.Do next → FitsNext next (length piece.old) }
@@ -283,12 +282,13 @@ impl<'l, P: HasStopMark> TurnDriver<'l, P> {
         }
     }
 
-    /// The next thing that there is to do.
+    /// The next thing that there is to do. At a close those who stand at the listener are still taken (D-177).
     fn step(&mut self, piece: &mut [u8]) -> Follows
         requires { 0 < length piece.old }
         ensures { (next : Next) → result ≡ Follows.Do next → FitsNext next (length piece.old) }
     {
         if let Some(key) = self.orphan.take() {
+            // No link has this place, so what the lane says of it changes none.
             self.told = usize::MAX;
             return Follows::Do(Next::Leave {
                 key,
@@ -323,7 +323,7 @@ impl<'l, P: HasStopMark> TurnDriver<'l, P> {
         }
     }
 
-    /// Waits until something is ready, or the next deadline.
+    /// Waits until something is ready, or the next deadline, `NAP` at most: so no thread has to wake another (D-176).
     fn wait<R: Wait + Clock>(&mut self, rt: &R) {
         let mut limit = self.walk.next.saturating_sub(self.now).min(NAP);
         if self.may_take {
@@ -365,7 +365,7 @@ impl<'l, P: HasStopMark> TurnDriver<'l, P> {
         }
     }
 
-    /// The lane took the connection that came, under this key.
+    /// The lane took the connection that came, under this key. If it gets no link the lane is told that it leaves.
     fn took(&mut self, key: Option<usize>) {
         let (Some(key), Some(stream)) = (key, self.arrived.take()) else {
             return;

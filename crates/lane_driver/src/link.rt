@@ -9,19 +9,19 @@ use std::alloc::{AllocError, Global};
 use std::io::{ErrorKind, Read};
 use std::net::Shutdown;
 
-/// A write that takes nothing for so long ends its connection, in milliseconds.
+/// The time for which writes may take nothing before their connection ends, in milliseconds (D-171).
 pub const WRITE_LIMIT: u64 = 30_000;
 
-/// So long what a client still sends behind the last answer is thrown away at most, in milliseconds.
+/// The longest time for which what a client still sends behind the last answer is thrown away, in milliseconds.
 pub const LINGER_LIMIT: u64 = 1_000;
 
-/// And so many bytes at most.
+/// The most bytes of it that are thrown away.
 pub const LINGER_BYTES: usize = 8_388_608;
 
-/// So many writes are made at once.
+/// The most writes in one turn.
 const WRITES: usize = 64;
 
-/// So many reads are thrown away at once.
+/// The most reads that are thrown away in one turn.
 const THROWN: usize = 16;
 
 /// What a connection does.
@@ -31,7 +31,7 @@ pub enum Phase {
     Serving,
     /// Its last answer is to be sent.
     Closing,
-    /// The last answer was sent: what still comes is thrown away, at most so many bytes.
+    /// The last answer was sent: what still comes is thrown away, at most `left` bytes.
     Lingering { left: usize },
 }
 
@@ -62,7 +62,7 @@ pub enum Looked {
 /// What a read that doesn't wait gave.
 #[derive(Clone, Copy, PartialEq, Eq)]
 pub enum Got {
-    /// So many bytes.
+    /// This number of bytes.
     Bytes(usize),
     /// Nothing for now.
     Nothing,
@@ -131,6 +131,7 @@ impl ConnectionSocket {
         if self.phase != Phase::Serving {
             return Looked::Over;
         }
+        // The collector closes, and no client may hold its end (D-177).
         if is_cut && !is_idle {
             return Looked::Leaves(Leaving::ReadFailed);
         }
@@ -173,6 +174,7 @@ impl ConnectionSocket {
 
     /// Its connection has ended in the lane's table. An answer that closes is still to be sent.
     pub fn end(&mut self, end: ServeEnd, moment: u64) -> SocketStep {
+        // Behind every other end there is nothing to send.
         if end != ServeEnd::Answered {
             return SocketStep::Over;
         }
@@ -191,12 +193,13 @@ impl ConnectionSocket {
         if self.stream.shutdown(Shutdown::Write).is_err() {
             return SocketStep::Over;
         }
+        // A socket closed with bytes unread is reset, and the answer may be lost by that (RFC 9112, section 9.6).
         self.phase = Phase::Lingering { left: LINGER_BYTES };
         self.since = moment;
         SocketStep::GoesOn
     }
 
-    /// Throws away what came, of which so many bytes may come still.
+    /// Throws away what came, of which `left` bytes may still come.
     pub fn drain(&mut self, piece: &mut [u8], left: usize) -> SocketStep {
         let mut left = left;
         for _ in 0..THROWN {

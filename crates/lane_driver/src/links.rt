@@ -11,18 +11,18 @@ use std::alloc::Global;
 use std::collections::VecDeque;
 use std::sync::Arc;
 
-/// So long a lane leaves a new connection to the others for each connection that it has more than they, in
-/// milliseconds: they may be kept from looking at once by what else the processors do.
+/// How long a lane leaves a new connection to the others, for each connection that it has more than they, in
+/// milliseconds: what else the processors do may keep them from looking at once (D-170).
 const PATIENCE: u64 = 8;
 
-/// And so long at most.
+/// The longest time for which it does so, in milliseconds.
 const MOST_PATIENCE: u64 = 32;
 
 /// The sockets of the connections that are served, and of those whose last answer is under way, each at its place.
 #[derive(Drop)]
 pub struct Links {
     slab: Slab<ConnectionSocket>,
-    /// So many are open at once at most, besides one that came last.
+    /// The most that are open at once, beside one that came last.
     pub limit: usize,
     /// Places from which on there is no link.
     pub end: usize,
@@ -79,6 +79,7 @@ impl Links {
         if self.is_at_limit() {
             return since.saturating_add(NAP);
         }
+        // Looked at anew each time: where other lanes' connections have left this one waits the longer (D-170).
         let least = self.loads.least();
         let fewest = least.saturating_add(least / 8);
         let more = (self.slab.len() as u64).saturating_sub(fewest);
@@ -128,6 +129,7 @@ impl Links {
             is_new = !link.is_listed;
             link.is_listed = true;
         }
+        // What isn't listed for want of memory has its next turn once more comes, or at its deadline.
         if is_new && self.ready.push_back(place).is_err() {
             self.unlist(place);
         }

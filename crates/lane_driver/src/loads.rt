@@ -14,7 +14,7 @@ pub struct Loads {
 }
 
 impl Loads {
-    /// Of so many lanes, none of which has a connection.
+    /// For this number of lanes, none of which has a connection.
     pub fn new(alloc: Global, lanes: usize) -> Result<Self, AllocError> {
         let mut counts = Vec::with_capacity(alloc, lanes)?;
         for _ in 0..lanes {
@@ -26,7 +26,7 @@ impl Loads {
         })
     }
 
-    /// The lane has so many now.
+    /// The number that the lane has now.
     pub fn set(&self, lane: usize, count: usize) {
         if let Some(it) = self.counts.get(lane) {
             it.store(count as u64, Ordering::SeqCst);

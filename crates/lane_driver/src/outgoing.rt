@@ -79,13 +79,14 @@ impl Outgoing {
         }
     }
 
-    /// So many bytes were sent.
+    /// `n` bytes were sent.
     fn skip(&mut self, n: usize)
         requires { n ≤ length self.old }
         ensures { self.new ≡ drop n self.old }
     {
         self.at += n;
         if self.at == self.bytes.len() {
+            // A new list in place of an empty one, since an idle connection is to hold no memory for answers.
             self.bytes = Vec::new(self.alloc);
             self.at = 0;
         }

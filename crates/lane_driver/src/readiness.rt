@@ -12,10 +12,10 @@ use std::time::{Clock, Duration, Instant};
 /// The listener's token; a connection's is its place among the links.
 const LISTENER: Token = Token(usize::MAX);
 
-/// So long a lane waits at most before it looks at the mark to stop, in milliseconds.
+/// The longest time that a lane waits before it looks at the mark to stop, in milliseconds.
 pub const NAP: u64 = 100;
 
-/// So many are found at once at most.
+/// The most that one wait finds.
 pub const EVENTS: usize = 256;
 
 /// What is ready.
@@ -58,6 +58,7 @@ impl<'l> Readiness<'l> {
         listener: &'l TcpListener,
     ) -> io::Result<Self> {
         let poll = Poll::new(rt)?;
+        // All lanes watch one listener, and the system chooses which of them takes a connection (D-170).
         let fd = listener.as_raw_fd();
         poll.registry()
             .register(&mut SourceFd(&fd), LISTENER, Interest::READABLE)?;
@@ -70,10 +71,11 @@ impl<'l> Readiness<'l> {
         })
     }
 
-    /// Takes a connection of the listener, without waiting for one.
+    /// Takes a connection from the listener, without waiting for one.
     pub fn accept(&self) -> Accepted {
         match self.listener.accept() {
             Ok((stream, _)) => {
+                // Without delay: an answer is whole, and nothing follows that its last bytes could wait for.
                 if stream.set_nonblocking(true).is_ok() && stream.set_nodelay(true).is_ok() {
                     return Accepted::Connection(TcpStream::from_std(stream));
                 }
@@ -82,6 +84,7 @@ impl<'l> Readiness<'l> {
             Err(error) => match error.kind() {
                 ErrorKind::WouldBlock => Accepted::Nothing,
                 ErrorKind::Interrupted | ErrorKind::ConnectionAborted => Accepted::Broken,
+                // Whatever else is wrong, it is tried again after a pause.
                 _ => Accepted::NoFile,
             },
         }
@@ -89,6 +92,7 @@ impl<'l> Readiness<'l> {
 
     /// From now on it is told when the connection at this place may be read or written. `false`: that can't be.
     pub fn watch(&self, stream: &mut TcpStream, place: usize) -> bool {
+        // For both at once, so that nothing is registered anew when an answer has to wait.
         let both = Interest::READABLE | Interest::WRITABLE;
         self.poll
             .registry()
@@ -102,7 +106,7 @@ impl<'l> Readiness<'l> {
         Some(u64::try_from(since.as_millis()).unwrap_or(u64::MAX))
     }
 
-    /// Waits until something is ready, for so many milliseconds at most.
+    /// Waits until something is ready, for at most `limit` milliseconds.
     pub fn wait(&mut self, limit: u64) {
         let found = self
             .poll
@@ -111,6 +115,7 @@ impl<'l> Readiness<'l> {
             return;
         }
         for event in self.events.iter() {
+            // There is room for `EVENTS`, and one wait finds no more.
             let _ = self.found.push(event.token());
         }
     }

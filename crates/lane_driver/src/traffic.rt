@@ -1,7 +1,7 @@
 //! What came and went on all connections.
 use std::sync::atomic::{AtomicU64, Ordering};
 
-/// How an answer begins, in front of its status (RFC 9112, section 4). No body has this text.
+/// The beginning of an answer, in front of its status (RFC 9112, section 4). No body has this text.
 const START: &[u8] = b"HTTP/1.1 ";
 
 /// Bytes that came and went, how many requests were answered with each status, and what became of connections. All
@@ -45,8 +45,9 @@ impl Traffic {
         }
     }
 
-    /// So many bytes came.
+    /// This number of bytes came.
     pub fn came(&self, bytes: usize) {
+        // These numbers are only told, and nothing is decided by them, so they need no order among each other.
         self.received.fetch_add(bytes as u64, Ordering::Relaxed);
     }
 

@@ -1,7 +1,7 @@
 //! Walks over all connections, for those whose time is over.
 ghost use Rattle.std.specs.Prelude.{◌≤◌};
 
-/// So long lie between two walks at least, in milliseconds.
+/// The least time between two walks, in milliseconds.
 const PAUSE: u64 = 100;
 
 /// A walk over all places, and when the next begins.
@@ -52,6 +52,7 @@ impl Walk {
         self.at = None;
         self.next = self.least;
         if self.least < u64::MAX {
+            // Not at once, since a walk looks at every connection.
             self.next = self.least.max(now.saturating_add(PAUSE));
         }
     }

@@ -1,5 +1,5 @@
 -- Replies to requests.
-use Rattle.std.specs.Prelude.{◌≡◌, ℕ, ◌+◌, ◌<◌}
+use Rattle.std.specs.Prelude.{◌≡◌, ℕ, ◌+◌, ◌<◌, Bool, true, false}
 use Rattle.lane_seq.specs.declared.reply.Reply.{Reply}
 use Rattle.lane_seq.specs.declared.reply.Reply.TheVariants.{Done, Partial, BadData, Busy}
 
@@ -9,6 +9,13 @@ IsRefusal (Done spans) = ⊥
 IsRefusal (Partial spans invalid full) = ⊥
 IsRefusal (BadData cause) = Unit {0}
 IsRefusal Busy = Unit {0}
+
+-- the request's spans were received
+abbrev pub is_received : Reply → Bool
+is_received (Done spans) = true
+is_received (Partial spans invalid full) = true
+is_received (BadData cause) = false
+is_received Busy = false
 
 -- this fact, where the request's spans were received
 abbrev pub OnReceived : Reply → Type 0 → Type 0

@@ -9,6 +9,7 @@
 //! ```
 #![tactic(auto)]
 
+mod counting;
 mod lane;
 mod law;
 mod preparing;
@@ -16,6 +17,7 @@ mod pushing;
 mod reply;
 mod routing;
 
+pub use counting::count_reply;
 pub use lane::{Lane, LaneEnd};
 pub use law::list_pushes_are_determined;
 pub use preparing::{Conn, Prepared, count_invalid, prepare};

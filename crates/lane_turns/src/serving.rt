@@ -30,7 +30,7 @@ use std::time::Clock;
 pub enum Next {
     /// To take a connection.
     Take,
-    /// So many bytes came on the connection at this key.
+    /// `len` bytes came on the connection at this key.
     Came { key: usize, len: usize },
     /// To look at how long the connection at this key has waited.
     Look { key: usize },
@@ -103,6 +103,7 @@ fn turn<'l, ShardPort: Port<Item>, Ledger: Counter, Mark: HasStopMark, Time: Mom
     ensures spare { IfSome spare.new (λ engine. Awaits engine (in_head allowed [])) }
 {
     text.clear();
+    // No promise rests on what a driver says (D-170), so a key may be that of no connection.
     match next {
         Next::Take => Done::Took(take(table, lane, counts, moment)),
         Next::Came { key, len } => {
@@ -161,6 +162,7 @@ fn is_over(next: Next, table: &Slab<Exchange>) -> bool
     ensures over { IsTrue result → (next ≡ End) × ((key : ℕ) → get table.now key ≡ None) }
     ensures goes_on { result ≡ false → next ≡ End → (key : ℕ) × ContainsKey table.now key }
 {
+    // A driver that says `End` while a connection is open is told `Nothing`, and asked again.
     matches!(next, Next::End) && table.is_empty()
 }
 
@@ -199,6 +201,7 @@ pub fn serve_turns<
     ensures driven { IsDriven Poller.asks Poller.hears (Submits ShardPort.takes ShardPort.refuses) allowed driver.old (lane_now lane.old (Ledger.counted counts.old)) driver.new (lane_now lane.new (Ledger.counted counts.new)) result }
 {
     let mut table = Slab::new(lent.alloc);
+    // The engine that the last whole request left, for whichever connection begins the next one.
     let mut spare = None;
     let mut piece = [0; PIECE_LIMIT];
     let mut text = Vec::new(lent.alloc);

@@ -48,6 +48,7 @@ pub(crate) fn came<
     ensures spare { IfSome spare.new (λ engine. Awaits engine (in_head arrived.entry.allowed [])) }
 {
     let mut exchange = open.remove(key);
+    // It is out of the table meanwhile: what ends is gone, what doesn't goes back to the key that it left.
     let end = exchange.came(lent, spare, lane, counts, writer, arrived);
     if let Some(why) = end {
         return Some(why);
@@ -160,9 +161,11 @@ pub fn take<P: Port<Item>, C: Counter>(
     ensures fits { (allowed : Allowed) → GoesOn (Submits P.takes P.refuses) allowed (get «open».old) (lane_now lane.old (C.counted counts.now)) (get «open».new) (lane_now lane.new (C.counted counts.now)) false
         (λ earlier. TakesOne (get «open».old) (get «open».new) moment result) }
 {
+    // Each has a number of its own among its lane's, of 64 bits, and none is left.
     if lane.connected() == u64::MAX {
         return None;
     }
+    // Before it gets its number, so that nothing has changed where memory is refused.
     let Ok(()) = open.reserve(1) else {
         return None;
     };

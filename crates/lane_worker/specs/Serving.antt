@@ -59,8 +59,8 @@ module _ {F X : Type 0} (gives : F → Option X → F → Type 0) (known : X →
   HasServed old before new after is_full = (given : List X) × ServesAll given old before new after is_full
 
 module _ {D : Type 0} (asks : D → Next → ℕ → List ℕ → D → Type 0) (hears : D → Done → List ℕ → D → Type 0) (allowed : Allowed) (capacity : ℕ) where
-  -- many connections were served at once, turn by turn, by a lane whose queues may hold so many items; and round by
-  -- round the lane did what its driver said
+  -- many connections were served at once, turn by turn, by a lane whose queues may hold this number of items; and
+  -- round by round the lane did what its driver said
   abbrev pub ServesMany : (driver : D) → (before : LaneAt) → (last : D) → (after : LaneAt) → (is_full : Bool) → Type 0
   ServesMany driver before last after is_full =
       ServesTurns (Submits (TakesItem capacity) (IsRefused capacity)) allowed before after is_full

@@ -17,8 +17,8 @@ use std::time::Clock;
 
 /// What serves the connections of a lane.
 pub trait LaneServer {
-    /// What it does to a lane whose queues may hold so many items: itself and the lane before and after it served all,
-    /// and whether a count would have passed 2^64-1.
+    /// What it does to a lane whose queues may hold this number of items: itself and the lane before and after it
+    /// served all, and whether a count would have passed 2^64-1.
     ghost serves: { ℕ → Self → LaneAt → Self → LaneAt → Bool → Type 0 };
 
     /// Serves connections until there are none any more, or a count would have passed 2^64-1, and says whether that was
@@ -51,6 +51,7 @@ pub struct OneByOne<F> {
     pub acceptor: F,
 }
 
+// The program serves by turns (`ByTurns`): only tests have an acceptor (D-155).
 impl<F: Acceptor> LaneServer for OneByOne<F> {
     ghost use Rattle.lane_worker.specs.Serving.{connection, HasServed};
 
@@ -109,6 +110,7 @@ impl<D: Driver> LaneServer for ByTurns<D> {
         counter: &mut Ledger,
         _gate: &Observer,
     ) -> bool {
+        // No gate: it holds a lane between two connections, and these are served side by side.
         serve_turns(rt, lent, self.allowed, &mut self.driver, lane, counter)
     }
 }

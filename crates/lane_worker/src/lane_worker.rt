@@ -82,6 +82,7 @@ fn end_all<'r, C: Room, R: Wait + Clock>(
     let mut senders = room;
     for port in ports {
         let mut sender = port.end();
+        // The last that it pushes: a shard ends once each of its senders has ended.
         sender.push(rt, Item::End(number));
         senders.push_reserved(sender);
     }
@@ -115,6 +116,7 @@ pub(crate) fn serve_all<
     ensures same_queues { queues lane.new.ports ≡ queues lane.old.ports }
 {
     for _ in rt.forever() {
+        // No number is left for one more (D-147).
         if lane.connected() == u64::MAX {
             return false;
         }

@@ -1,9 +1,9 @@
 //! A lane and the ticker, each on a thread of its own: what their threads do, and what they promise of it.
 //!
 //! [`work`] has a [`LaneServer`] serve the lane's connections, and then pushes the lane's `End` to each shard.
-//! [`OneByOne`] serves the connections that an [`Acceptor`] gives, one after the other; [`ByTurns`] serves many at once,
-//! as a `lane_turns::Driver` says. [`tick`] pushes the moments that [`Ticks`] give to every shard, and then its own
-//! `End`.
+//! [`ByTurns`] serves many connections at once, as a `lane_turns::Driver` says; [`OneByOne`], which tests have, those
+//! that an [`Acceptor`] gives, one after the other. [`tick`] pushes the moments that [`Ticks`] give to every shard, and
+//! then its own `End`.
 //!
 //! ```
 //! let task = LaneTask { number, lane, room };

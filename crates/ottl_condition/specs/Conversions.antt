@@ -62,7 +62,7 @@ as_duration _ = Err errors.NotAText
 abbrev pub whole : List ℕ → Option (List ℕ)
 whole s = if is_utf8 s then Some s else None
 
--- of a text so many bytes from a place on, where it has them, and they are whole characters
+-- the `size` bytes of a text from a place on, where it has them, and they are whole characters
 abbrev pub piece : List ℕ → (start size : ℕ) → Option (List ℕ)
 piece t start size = if nat_lt 0 size && nat_le (start + size) (length t) then whole (take size (drop start t)) else None
 

@@ -11,6 +11,7 @@ use std::num::nearest_i64_to_f64;
 fn of_ints<'a, 'r>(binary: Binary, left: i64, right: i64) -> Result<Value<'a, 'r>, EvalError>
     ensures { answer_of result ≡ spec.of_ints binary left right }
 {
+    // They wrap, as in Go, and so does the quotient of -2^63 and -1 (D-307).
     match binary {
         Binary::Add => Ok(Value::Int(left.wrapping_add(right))),
         Binary::Subtract => Ok(Value::Int(left.wrapping_sub(right))),
@@ -33,6 +34,7 @@ fn of_floats<'a, 'r>(binary: Binary, left: f64, right: f64) -> Result<Value<'a, 
         Binary::Subtract => Ok(Value::Float(left - right)),
         Binary::Multiply => Ok(Value::Float(left * right)),
         _ => {
+            // A quotient by 0 is an error of floats, too (D-307).
             if right == 0.0 {
                 Err(EvalError::DividedByZero)
             } else {

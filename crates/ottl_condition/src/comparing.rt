@@ -63,6 +63,7 @@ fn by_equality(binary: Binary, are_equal: bool) -> bool
 pub(crate) fn compared(binary: Binary, left: &Value<'_, '_>, right: &Value<'_, '_>) -> bool
     ensures { result ≡ spec.compared binary (value_of left.now) (value_of right.now) }
 {
+    // Maps and lists are equal or not, and have no order (D-330).
     match (left, right) {
         (Value::Map(left), Value::Map(right)) => by_equality(binary, maps_equal(left, right)),
         (Value::List(left), Value::List(right)) => by_equality(binary, lists_equal(left, right)),

@@ -37,6 +37,7 @@ pub(crate) fn as_int<'a, 'r>(value: &Value<'_, '_>) -> Value<'a, 'r>
 {
     match value {
         Value::Int(number) => Value::Int(*number),
+        // The nearest number where it doesn't fit, and 0 of a NaN, where Go's answer depends on the machine (D-337).
         Value::Float(number) => Value::Int(saturating_f64_to_i64(*number)),
         Value::Bool(truth) => Value::Int(number_of(*truth)),
         Value::Text(text) => int_or_nil(text.as_bytes()),
@@ -100,6 +101,7 @@ pub(crate) fn as_text<'a, 'r>(value: &Value<'a, 'r>) -> Result<Value<'a, 'r>, Ev
         Value::Digits(digits) => Ok(Value::Digits(*digits)),
         Value::Int(number) => Ok(Value::Digits(decimal(*number))),
         Value::Bool(truth) => Ok(Value::Text(truth_text(*truth))),
+        // The Collector makes a text of these, too (D-338).
         _ => Err(EvalError::NoText),
     }
 }
@@ -129,11 +131,12 @@ pub(crate) fn as_duration<'a, 'r>(value: &Value<'_, '_>) -> Result<Value<'a, 'r>
     }
 }
 
-/// Of a text so many bytes from a place on, where it has them, and they are whole characters.
+/// The `size` bytes of a text from a place on, where it has them, and they are whole characters.
 fn piece(text: &[u8], start: usize, size: usize) -> Option<&str>
     ensures piece { option_map (λ found. found.now) result ≡ spec.piece text.now start size }
     ensures within { IfSome result (λ found. length found.now ≤ length text.now) }
 {
+    // In bytes, as in Go; a part of no byte is an error (D-339).
     if size == 0 || text.len() < size || text.len() - size < start {
         return None;
     }
@@ -164,7 +167,7 @@ fn piece_of(text: &[u8], start: i64, size: i64) -> Option<&str>
     }
 }
 
-/// `Substring`: of a text so many bytes from a place on.
+/// `Substring`: the `size` bytes of a text from a place on.
 #[tactic(auto, unfolding(crate::specs::Conversions::part_of))]
 pub(crate) fn part_of<'a, 'r>(
     of: &Value<'a, 'r>,

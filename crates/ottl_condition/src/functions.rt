@@ -22,6 +22,7 @@ fn length_of<'a, 'r>(value: &Value<'_, '_>) -> Result<Value<'a, 'r>, EvalError>
         Value::Digits(digits) => Ok(Value::Int(digits.len() as i64)),
         Value::Map(pairs) => Ok(Value::Int(pairs.len() as i64)),
         Value::List(values) => Ok(Value::Int(values.len() as i64)),
+        // Bytes have none, either (D-303).
         _ => Err(EvalError::NoLength),
     }
 }
@@ -91,6 +92,7 @@ pub(crate) fn begins<'a, 'r>(
             text.as_bytes(),
             prefix.as_bytes(),
         ))),
+        // `nil` is no text, so a missing attribute is an error here (D-304).
         _ => Err(EvalError::NotAText),
     }
 }
@@ -141,6 +143,7 @@ pub(crate) fn searched<'a, 'r>(
         Value::Int(number) => Ok(Value::Bool(number_is_match(pattern, *number, searches))),
         Value::Bool(truth) => Ok(Value::Bool(searches.finds(pattern, truth_text(*truth)))),
         Value::Nil => Ok(Value::Bool(false)),
+        // OTTL makes a text of a float, of bytes, a list or a map (D-306).
         _ => Err(EvalError::NotAText),
     }
 }

@@ -16,9 +16,10 @@ use ottl_equality::pair_of;
 use ottl_text::{Key, Path, Root};
 use span_ids::{SpanId, TraceId};
 
-/// The digits of no id of a span, and of a trace.
+/// The digits that stand for no id of a span.
 const NO_SPAN: &str = "0000000000000000";
 
+/// The digits that stand for no id of a trace.
 const NO_TRACE: &str = "00000000000000000000000000000000";
 
 /// A kind's name; other numbers have none.
@@ -32,6 +33,7 @@ fn kind_text(kind: i32) -> &'static str
         3 => "Client",
         4 => "Producer",
         5 => "Consumer",
+        // A number that isn't known has an empty text (D-300).
         _ => "",
     }
 }
@@ -106,6 +108,7 @@ fn span_id_value<'a, 'r>(id: Option<SpanId>) -> Value<'a, 'r>
 fn id_value<'a, 'r>(root: Root, ids: Option<Ids>) -> Value<'a, 'r>
     ensures { value_of result ≡ spec.id_value root ids }
 {
+    // A span of which one id isn't valid has none of the three (D-299).
     match (root, ids) {
         (Root::ParentSpanIdText, ids) => span_id_value(parent_of(ids)),
         (Root::SpanIdText, Some(ids)) => Value::Digits(span_digits(ids.span)),
@@ -154,6 +157,7 @@ pub(crate) fn attributes_at<'a>(root: Root, subject: &Subject<'a>) -> Option<&'a
 fn root_value<'a, 'r>(root: Root, sent: &'a Record) -> Value<'a, 'r>
     ensures { value_of result ≡ spec.root_value root sent.now }
 {
+    // Times from 2^63 on are negative below, as Go's `int64` is (D-301).
     let span = sent.span.get();
     match root {
         Root::Name => Value::Text(span.name.as_str()),
@@ -198,6 +202,7 @@ fn outer_value<'a, 'r>(root: Root, sent: &'a Record) -> Value<'a, 'r>
 fn look_up<'a, 'r>(key: &str, pairs: &'a [KeyValue]) -> Option<Value<'a, 'r>>
     ensures { option_map value_of result ≡ spec.look_up key.now pairs.now }
 {
+    // Of two attributes with one key the first counts (D-309).
     match pair_of(key, pairs) {
         Some(pair) => Some(Value::of_attribute(&pair.value)),
         None => None,
@@ -241,6 +246,7 @@ fn walk<'a, 'r>(value: &Value<'a, 'r>, keys: &[Key]) -> Result<Value<'a, 'r>, Ev
         None => Ok(value.again()),
         Some((first, rest)) => match step_into(value, first) {
             Ok(Some(inside)) => walk(&inside, rest),
+            // Behind a missing key every other one is missing, too (D-302).
             Ok(None) => Ok(Value::Nil),
             Err(error) => Err(error),
         },

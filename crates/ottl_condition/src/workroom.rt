@@ -25,6 +25,7 @@ pub fn workroom_for(alloc: Global, condition: &Expression) -> Result<Workroom, A
     let Some(texts) = texts_made(condition) else {
         return Err(AllocError);
     };
+    // Reserved with the condition, so that to ask it takes no memory (D-340).
     let rooms = rooms_for(alloc, texts)?;
     let searches = searches_for(alloc, condition)?;
     Ok(Workroom { searches, rooms })

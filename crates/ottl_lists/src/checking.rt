@@ -59,6 +59,7 @@ fn check_texts(alloc: Global, texts: &[Text]) -> Result<(), ConditionFault>
     for text in texts {
         match expression::check(alloc, text.as_str()) {
             Ok(()) => {}
+            // A later text may be no expression, and that fault goes first (D-211).
             Err(ExpressionFault::TooBig) => is_big = true,
             Err(ExpressionFault::NotAnExpression) => return Err(ConditionFault::NotAnExpression),
             Err(ExpressionFault::NoMemory) => return Err(ConditionFault::NoMemory),

@@ -27,6 +27,7 @@ fn some_holds(
             Ok(true) => return Ok(true),
             Ok(false) => {}
             Err(error) => {
+                // Otherwise it is passed over, and the next one is asked (D-341).
                 if mode == ErrorMode::Propagate {
                     return Err(error);
                 }
@@ -99,6 +100,7 @@ pub fn trace_meets(
     ensures said { result ≡ spec.trace_meets mode on_span.now on_event.now spans.now }
     ensures same { conditions.new ≡ conditions.old }
 {
+    // In the order in which they came, which matters under `propagate` alone (D-347).
     for arrival in spans {
         match span_meets(conditions, mode, on_span, on_event, &arrival.rec) {
             Ok(true) => return Ok(true),

@@ -1,20 +1,20 @@
 -- A float that is read has a text of the language that reads as it.
 -- For the law of laws::prints_as_itself.
-use Rattle.std.proofs.Common.{◌≡◌, ℕ, zero, suc, ◌+◌, ◌-◌, ◌*◌, ◌/◌, ◌%◌, ◌^◌, ◌<◌, ◌≤◌, ◌⊎◌, inl, inr, Bool, true, false, cond, ◌&&◌, eqb, nat_lt, nat_le, T, List, [], ◌∷◌, ◌++◌, length, Ok, Err, Result, Option, Some, None, codes, refl, sym, ap, ◌∙◌, subst, arith, true≢false, eq-eqb, ne_eqb, append_assoc, append-nil, length-append, pow-add}
+use Rattle.std.proofs.Common.{◌≡◌, ℕ, zero, suc, ◌+◌, ◌-◌, ◌*◌, ◌/◌, ◌%◌, ◌^◌, ◌<◌, ◌≤◌, inl, inr, Bool, true, false, cond, nat_le, T, List, [], ◌∷◌, ◌++◌, length, Ok, Option, Some, None, codes, refl, sym, ap, ◌∙◌, subst, arith, true≢false, eq-eqb, ne_eqb, append_assoc, append-nil, length-append, pow-add}
 use Rattle.std.proofs.lemmas.Bool.{cases_Bool, cases_lt}
 use Rattle.std.proofs.lemmas.Fmt.{decimal_is_IsNumeral, decimal_nonempty, first_decimal, length-decimal-le}
 use Rattle.std.proofs.lemmas.Float.Parse.{parse_float-text_of}
 use Rattle.std.specs.Prelude.{◌==◌, to_bits, if◌then◌else◌}
 use Rattle.std.specs.Char.{is_ascii_digit}
 use Rattle.std.specs.Float.{Float, binary64, nan, inf, fin, float_is_finite}
-use Rattle.std.specs.Float.Numeral.{Parts, scan_numeral, has_digits, nearest_float, exponent_text, text_of, IsWellFormed, numeral_digits, tens_up, tens_down}
+use Rattle.std.specs.Float.Numeral.{Parts, scan_numeral, has_digits, nearest_float, exponent_text, text_of, IsWellFormed, tens_up}
 use Rattle.std.specs.Float.Parse.{begins_with, parse_float, read_float, read_unsigned, read_word}
 use Rattle.std.specs.Fmt.{decimal, sign_text}
-use Rattle.std.specs.Str.Parse.{AllDigits, digits_value}
+use Rattle.std.specs.Str.Parse.{digits_value}
 use lib.Ieee.{round, fits, of_bits}
 use lib.Ieee.Bits.{of_bits-to_bits}
 use lib.Ieee.Fits.{round-fits}
-use Rattle.fast_float.specs.Rounding.{IsNearestBits, scaled_bits}
+use Rattle.fast_float.specs.Rounding.{IsNearestBits}
 use Rattle.std.specs.Char.{digit_value}
 use Rattle.fast_float.proofs.DigitsLemmas.{digits_value-append}
 use Rattle.fast_float.proofs.Extremes.{nearest_of_zero}

@@ -1,6 +1,6 @@
 -- What is read from a text is a tree that prints in no more levels.
 -- For the law of laws::prints_as_itself.
-use Rattle.std.proofs.Common.{◌≡◌, ℕ, zero, suc, ◌+◌, ◌-◌, ◌<◌, ◌≤◌, ◌⊎◌, inl, inr, ℤ, max, Bool, true, false, cond, ◌&&◌, ◌||◌, List, [], ◌∷◌, ◌++◌, length, get_or, eqb, nat_lt, nat_le, take, drop, Ok, Err, Result, Option, Some, None, codes, refl, sym, ap, ◌∙◌, subst, arith, true≢false, length-take, length-drop}
+use Rattle.std.proofs.Common.{◌≡◌, ℕ, zero, suc, ◌+◌, ◌<◌, ◌≤◌, ◌⊎◌, inl, inr, ℤ, Bool, true, false, cond, ◌&&◌, ◌||◌, List, [], length, get_or, nat_lt, nat_le, take, drop, Ok, Err, Result, Option, Some, None, codes, refl, sym, ap, ◌∙◌, subst, arith, true≢false, length-take, length-drop}
 use Rattle.std.proofs.lemmas.Bool.{cases_lt}
 use Rattle.std.proofs.lemmas.Bool.Decides.{nat_tests}
 use Rattle.std.specs.Prelude.{◌==◌, bytes_eq, if◌then◌else◌}
@@ -13,7 +13,6 @@ use Rattle.ottl_text.specs.declared.expression.Unary.{Unary}
 use Rattle.ottl_text.specs.declared.expression.Unary.TheVariants as one
 use Rattle.ottl_text.specs.declared.expression.Binary.{Binary}
 use Rattle.ottl_text.specs.declared.expression.Binary.TheVariants as two
-use Rattle.ottl_text.specs.declared.expression.Case.{Case}
 use Rattle.std.specs.Str.{is_utf8, chars}
 use lib.Utf8.{encode}
 use Rattle.ottl_text.specs.Literals.{in_utf8}
@@ -21,15 +20,15 @@ use Rattle.ottl_text.specs.declared.fault.FaultKind.{FaultKind}
 use Rattle.ottl_text.specs.declared.fault.FaultKind.TheVariants as faults
 use Rattle.ottl_text.specs.Gives.{Read, ◌>>=◌}
 use Rattle.ottl_text.specs.Names.{operator_of, operator_of_word, precedence, takes_keys, unary_of, binary_of, enumeration_of, root_of}
-use Rattle.ottl_text.specs.Syntax.{Term, literal, path, is_root_span, unary, binary, is_match, substring, cased, concat, is_condition, is_value, is_not, suits}
+use Rattle.ottl_text.specs.Syntax.{Term, literal, path, is_root_span, unary, binary, is_match, substring, cased, concat, is_condition, is_value, is_not, suits, depth}
 use Rattle.ottl_text.specs.Tokens.{Piece, end, word, int, float, bytes, text, sign, operator, long_operator, short_operator, by_long, by_short, is_sign, marked, quoted, unnumbered, piece_at, next_piece}
-use Rattle.ottl_text.specs.Grammar.{next_at, after_sign, joined, fault_at, text_at, bytes_at, int_at, float_at, keyed, path_at, pattern_of, pattern_at, root_span_at, literal_at, argument_at, unary_at, binary_at, match_at, substring_at, not_at, inner_at, by_root, by_enumeration, by_binary, by_unary, named_at, word_at, by_piece, operand, by_operator, case_of, case_at, or_no_case, delimiter_of, delimiter_at, no_values_at, behind_value, is_the_sign, cased_at, concat_at, values, expression, operators}
+use Rattle.ottl_text.specs.Grammar.{most_deep, next_at, after_sign, joined, fault_at, text_at, bytes_at, int_at, float_at, keyed, path_at, pattern_of, pattern_at, root_span_at, literal_at, argument_at, unary_at, binary_at, match_at, substring_at, not_at, inner_at, by_root, by_enumeration, by_binary, by_unary, named_at, word_at, by_piece, operand, by_operator, case_at, delimiter_of, delimiter_at, no_values_at, is_the_sign, cased_at, concat_at, values, expression, operators}
 use Rattle.ottl_print.specs.Names.{is_operator}
-use Rattle.ottl_print.specs.Printing.{tightness, is_row, argument, is_like, operand_of_one, Size, levels_at, joined_size, has_parentheses, called_size, size}
-use Rattle.ottl_print.proofs.Literals.{IsFloat, split}
-use Rattle.ottl_print.proofs.Steps.{Begins}
-use Rattle.ottl_print.proofs.ReadsBack.{FineLiteral, suits_one, Fine, FineValue, FineValues, precedence_some, from_not_below, is_not_only, function_suits, no_binary}
-use Rattle.ottl_print.proofs.Parts.{no_ok, bind_ok, if_ok, either_ok, same_ok, same_some, no_some, case_some, int_fits, text_utf8, bytes_fine, next_began, text_began, bytes_began, int_began, float_began, keyed_fine, enumeration_fits, root_in_context}
+use Rattle.ottl_print.specs.Printing.{tightness, is_row, argument, is_like, operand_of_one, levels_at, joined_size, has_parentheses, called_size, size}
+use Rattle.ottl_print.proofs.Literals.{split}
+use Rattle.ottl_print.proofs.Steps.{Begins, IsShallow}
+use Rattle.ottl_print.proofs.ReadsBack.{FineLiteral, suits_one, Fine, FineValues, precedence_some, from_not_below, no_binary}
+use Rattle.ottl_print.proofs.Parts.{no_ok, bind_ok, if_ok, same_ok, same_some, no_some, case_some, int_fits, text_utf8, bytes_fine, next_began, text_began, bytes_began, int_began, float_began, keyed_fine, enumeration_fits, root_in_context}
 use Rattle.ottl_print.proofs.Floats.{float_is}
 
 -- ---- what pieces are
@@ -383,7 +382,7 @@ module _ (behind : ℕ) (c : Context) where
       let j = bind_ok (after_sign behind 41 faults.NoClosing y.0.1) _ q y.2 in
       let f = argument_got n well h.0 x.0 x.1 in
       let g = argument_got n well k.0 y.0 y.1 in
-      same_good n (binary b x.0.0 y.0.0) j.0 q j.2 ((value_suits b x.0.0 is f.1, value_suits b y.0.0 is g.1, f.0, g.0), inl (is, subst (λ z. z.levels ≤ suc n) (sym (size_called b x.0.0 y.0.0 is)) (omega (arith, f.2, g.2))))
+      same_good n (binary b x.0.0 y.0.0) j.0 q j.2 ((value_suits b x.0.0 is f.1, value_suits b y.0.0 is g.1, f.0, g.0, λ o. absurd (true≢false (sym o ∙ is))), inl (is, subst (λ z. z.levels ≤ suc n) (sym (size_called b x.0.0 y.0.0 is)) (omega (arith, f.2, g.2))))
     where
       value_suits : (b : Binary) (t : Term) → is_operator b ≡ false → is_value t ≡ true → suits b t ≡ true
       value_suits two.HasPrefix t o e = e
@@ -645,13 +644,13 @@ module _ (behind : ℕ) (c : Context) where
   true_lt a d e = grind (arith, nat_tests, e)
 
   joined_state : (n k least : ℕ) (b : Binary) (left y : Term) (s a rest : List ℕ) (p : Piece) → State (suc n) k least left s → Begins s p a → operator_of p ≡ Some b → is_operator b ≡ true → least ≤ precedence b
-      → suits b left ≡ true → suits b y ≡ true → Got n (precedence b + 1) y rest → State n (k + 1) least (binary b left y) rest
-  joined_state n k least b left y s a rest p state begins op is tight suits_left suits_y got =
+      → suits b left ≡ true → suits b y ≡ true → IsShallow b left y → Got n (precedence b + 1) y rest → State n (k + 1) least (binary b left y) rest
+  joined_state n k least b left y s a rest p state begins op is tight suits_left suits_y shallow got =
       let right = levels_at (precedence b + 1) y (L y) in
       let few_right : right ≤ n = at_least n (precedence b + 1) y got.levels got.row (λ e. suited_tight b y e suits_y) in
       let sizes = by_wrap (has_parentheses true b left (size true left) right) refl few_right in
       record {
-        fine = (suits_left, suits_y, state.fine, got.fine);
+        fine = (suits_left, suits_y, state.fine, got.fine, λ o. shallow);
         levels = subst (λ z. z.levels ≤ n + (k + 1) + 1) (sym (size_joined b left y is)) sizes.0;
         few = subst (λ z. n + (k + 1) + 1 ≤ z.levels → z.row ≤ k + 1) (sym (size_joined b left y is)) sizes.1;
         row = inr (inr (rw is (tight, got.next)));
@@ -709,10 +708,12 @@ module _ (behind : ℕ) (c : Context) where
         next = λ d r b e f. below b (ap operator_of (same_piece s r a p d begins e) ∙ f);
       }
 
-  joined_is : (b : Binary) (x y both : Term) (s : List ℕ) → joined behind b x y s ≡ Ok both → (suits b x ≡ true) × (suits b y ≡ true) × (binary b x y ≡ both)
+  joined_is : (b : Binary) (x y both : Term) (s : List ℕ) → joined behind b x y s ≡ Ok both → (suits b x ≡ true) × (suits b y ≡ true) × IsShallow b x y × (binary b x y ≡ both)
   unfolding joined
   joined_is b x y both s e =
-      let h = if_ok (suits b x && suits b y) (Ok (binary b x y)) _ both e in let v = split (suits b x) (suits b y) h.0 in (v.0, v.1, same_ok (binary b x y) both h.1)
+      let h = if_ok (suits b x && suits b y) _ _ both e in
+      let v = split (suits b x) (suits b y) h.0 in
+      let d = if_ok (nat_le (depth (binary b x y)) most_deep) (Ok (binary b x y)) _ both h.1 in (v.0, v.1, d.0, same_ok (binary b x y) both d.1)
 
   goes_well : (n : ℕ) → ReadsWell n → GoesWell n → GoesWell (suc n)
   unfolding operators
@@ -729,9 +730,9 @@ module _ (behind : ℕ) (c : Context) where
             let g = reads (precedence b + 1) h.0.1 y.0 y.1 in
             let t = joined_is b left y.0.0 j.0 s j.1 in
             let is = operator_fine h.0.0 b (piece_fine s h.0.1 h.0.0 begins) w.1 in
-            let state : State n (k + 1) least (binary b left y.0.0) y.0.1 = joined_state n k least b left y.0.0 s h.0.1 y.0.1 h.0.0 state begins w.1 is (true_le least (precedence b) w.2) t.0 t.1 g in
+            let state : State n (k + 1) least (binary b left y.0.0) y.0.1 = joined_state n k least b left y.0.0 s h.0.1 y.0.1 h.0.0 state begins w.1 is (true_le least (precedence b) w.2) t.0 t.1 t.2 g in
             let sum : n + (k + 1) + 1 ≡ suc n + k + 1 = omega arith in
-            subst (λ m. Got m least q.0 q.1) sum (goes (k + 1) least (binary b left y.0.0) y.0.1 q state (ap (λ both. operators behind c n least both y.0.1) t.2 ∙ j.2)))
+            subst (λ m. Got m least q.0 q.1) sum (goes (k + 1) least (binary b left y.0.0) y.0.1 q state (ap (λ both. operators behind c n least both y.0.1) t.3 ∙ j.2)))
         | inr w ↦ (let same = same_ok (left, s) q w.1 in subst (λ q. Got (suc n + k + 1) least q.0 q.1) same (stops_well n k least left s h.0.1 h.0.0 state begins w.0))
       ]
 

@@ -1,14 +1,12 @@
 -- A condition that parses prints as text that parses to the same.
 -- For the law of laws::prints_as_itself.
-use Rattle.std.proofs.Common.{◌≡◌, ℕ, zero, suc, ◌+◌, ◌-◌, ◌<◌, ◌≤◌, Bool, true, false, cond, ◌&&◌, nat_lt, nat_le, List, [], ◌∷◌, ◌++◌, length, Ok, Err, Result, refl, sym, ap, ◌∙◌, subst, arith, true≢false, append-nil}
-use Rattle.std.proofs.lemmas.Bool.{cases_lt}
+use Rattle.std.proofs.Common.{◌≡◌, ℕ, suc, ◌+◌, ◌-◌, ◌≤◌, Bool, true, false, ◌&&◌, nat_lt, nat_le, List, [], length, Ok, refl, sym, ap, ◌∙◌, subst, arith, append-nil}
 use Rattle.std.proofs.lemmas.Bool.Decides.{nat_tests}
 use Rattle.ottl_text.specs.declared.expression.Context.{Context}
-use Rattle.ottl_text.specs.declared.fault.FaultKind.TheVariants as faults
 use Rattle.ottl_text.specs.Syntax.{Term, is_condition}
 use Rattle.ottl_text.specs.Tokens.{end, next_piece, piece_at}
-use Rattle.ottl_text.specs.Grammar.{most_levels, is_end, next_at, fault_at, expression, operators, condition_of}
-use Rattle.ottl_print.specs.Printing.{size, text, is_sparing, printed, tightness}
+use Rattle.ottl_text.specs.Grammar.{most_levels, is_end, next_at, expression, condition_of}
+use Rattle.ottl_print.specs.Printing.{size, text, is_sparing, printed}
 use Rattle.ottl_print.proofs.Parts.{bind_ok, if_ok, same_ok}
 use Rattle.ottl_print.proofs.Steps.{stops_ok}
 use Rattle.ottl_print.proofs.ReadsBack.{Fine, row_levels, tight_some, end_of, ends_here}
@@ -38,9 +36,10 @@ fits_either t few = go (nat_lt 200 (size false t).levels) refl
     go true is = let test : nat_le (size true t).levels 200 ≡ true = grind (arith, nat_tests, few) in rw test few
     go false is = grind (arith, nat_tests, is)
 
-pub law : (c : Context) (s : List ℕ) (t : Term) → condition_of c s ≡ Ok t → condition_of c (printed c t) ≡ Ok t
-unfolding condition_of printed
-law c s t e =
+-- what is known of a tree that was read
+pub tree_fine : (c : Context) (s : List ℕ) (t : Term) → condition_of c s ≡ Ok t → Fine c t × (is_condition t ≡ true) × ((size true t).levels ≤ 200)
+unfolding condition_of
+tree_fine c s t e =
     let behind = length s + 1 in
     let h = bind_ok (expression behind c most_levels 1 s) _ t e in
     let last = bind_ok (next_at behind h.0.1) _ t h.2 in
@@ -48,7 +47,8 @@ law c s t e =
     let condition = if_ok (is_condition h.0.0) (Ok h.0.0) _ t ended.1 in
     let same : h.0.0 ≡ t = same_ok h.0.0 t condition.1 in
     let g = from_text behind c 200 1 s h.0 h.1 in
-    let fine : Fine c t = subst (Fine c) same g.0 in
-    let few : (size true t).levels ≤ 200 = subst (λ t. (size true t).levels ≤ 200) same g.1 in
-    let is : is_condition t ≡ true = subst (λ t. is_condition t ≡ true) same condition.0 in
-    condition_reads (is_sparing t) c t fine is (fits_either t few)
+    (subst (Fine c) same g.0, subst (λ t. is_condition t ≡ true) same condition.0, subst (λ t. (size true t).levels ≤ 200) same g.1)
+
+pub law : (c : Context) (s : List ℕ) (t : Term) → condition_of c s ≡ Ok t → condition_of c (printed c t) ≡ Ok t
+unfolding printed
+law c s t e = let h = tree_fine c s t e in condition_reads (is_sparing t) c t h.0 h.1 (fits_either t h.2)

@@ -9,5 +9,7 @@ mod Parts
 mod Floats
 mod FromText
 mod Law
+mod NotDeep
 mod Counted
+mod Escapes
 pub mod Rows

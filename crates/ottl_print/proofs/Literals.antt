@@ -1,6 +1,6 @@
 -- Literals read back what they print.
 -- For the law of laws::prints_as_itself.
-use Rattle.std.proofs.Common.{◌≡◌, ℕ, zero, suc, ◌+◌, ◌*◌, ◌^◌, ◌<◌, ◌≤◌, ◌⊎◌, inl, inr, ℤ, pos, negsuc, Bool, true, false, cond, ◌&&◌, List, [], ◌∷◌, ◌++◌, length, get_or, nat_lt, Ok, Result, codes, refl, sym, ap, ◌∙◌, subst, arith, true≢false, ne_eqb, lt-ltb, append_assoc}
+use Rattle.std.proofs.Common.{◌≡◌, ℕ, suc, ◌^◌, ◌<◌, ℤ, pos, negsuc, Bool, true, false, ◌&&◌, List, [], ◌∷◌, ◌++◌, length, nat_lt, Ok, refl, sym, ap, ◌∙◌, arith, true≢false, ne_eqb, lt-ltb, append_assoc}
 use Rattle.std.proofs.lemmas.Bool.Decides.{nat_tests}
 use Rattle.std.proofs.lemmas.Fmt.{decimal_is_IsNumeral}
 use Rattle.std.proofs.lemmas.Str.Parse.{digit_from_value}
@@ -12,11 +12,11 @@ use Rattle.std.specs.Fmt.{decimal, signed_decimal, sign_text}
 use Rattle.std.specs.Str.Parse.{AllDigits, IsNumeral, digits_value, without_leading_sign, signed_digits_value}
 use Rattle.std.specs.Float.{Float}
 use Rattle.std.specs.Float.Numeral.{exponent_text}
-use Rattle.hex.specs.Hex.{IsBytes, encode_lower, is_hex_digit, hex_digit_value}
+use Rattle.hex.specs.Hex.{IsBytes, encode_lower, is_hex_digit}
 use Rattle.hex.proofs.HexLemmas.{decode_of-encode_lower, decode_of-ok}
 use Rattle.ottl_lengths.specs.Lengths.{is_hex}
 use Rattle.ottl_text.specs.Literals.{int_of, float_of, bytes_of, are_digits, fits}
-use Rattle.ottl_text.specs.Tokens.{Piece, int, float, bytes, next_piece}
+use Rattle.ottl_text.specs.Tokens.{int, float, bytes, next_piece}
 use Rattle.ottl_print.specs.Texts.{float_text}
 use Rattle.ottl_print.proofs.Pieces.{Passes, Free, int_piece}
 use Rattle.ottl_print.proofs.Marks.{float_piece, bytes_piece}

@@ -1,21 +1,21 @@
 -- Floats, bytes, texts, operators, parentheses and commas, in front of what ends them.
 -- For the law of laws::prints_as_itself.
-use Rattle.std.proofs.Common.{◌≡◌, ℕ, zero, suc, ◌+◌, ◌<◌, ◌≤◌, ◌⊎◌, inl, inr, Bool, true, false, cond, ◌&&◌, ◌||◌, List, [], ◌∷◌, ◌++◌, length, get_or, take, drop, eqb, nat_lt, Ok, Result, Option, Some, None, codes, refl, sym, ap, ◌∙◌, subst, arith, true≢false, ne_eqb, eqb-true, lt-ltb, append_assoc, append-nil, length-append}
+use Rattle.std.proofs.Common.{◌≡◌, ℕ, ◌+◌, ◌<◌, ◌⊎◌, inl, inr, Bool, true, false, cond, List, [], ◌∷◌, ◌++◌, length, get_or, take, drop, nat_lt, Ok, Option, Some, None, codes, refl, sym, ap, ◌∙◌, subst, arith, true≢false, eqb-true, lt-ltb, append_assoc, append-nil, length-append}
 use Rattle.std.proofs.lemmas.Bool.Decides.{nat_tests}
 use Rattle.std.proofs.Math.Seq.{take-append_seam, drop-append_seam}
 use Rattle.std.specs.Prelude.{◌==◌}
 use Rattle.std.specs.Char.{is_ascii_digit}
 use Rattle.std.specs.Fmt.{sign_text}
 use Rattle.std.specs.Float.Numeral.{exponent_text}
-use Rattle.ottl_lengths.specs.Lengths.{is_letter, is_of_word, is_hex, front_len, skip_blank, sign_len, digits_len, bytes_len, int_len, exponent_len, float_len, word_len, quote_at, quote_from}
+use Rattle.ottl_lengths.specs.Lengths.{is_of_word, is_hex, sign_len, digits_len, bytes_len, int_len, exponent_len, float_len, word_len, quote_at, quote_from}
 use Rattle.ottl_text.specs.declared.expression.Binary.{Binary}
 use Rattle.ottl_text.specs.declared.expression.Binary.TheVariants as two
 use Rattle.ottl_text.specs.Literals.{escape_of, unescape, text_of, in_utf8}
 use Rattle.ottl_text.specs.Names.{operator_of}
-use Rattle.ottl_text.specs.Tokens.{Piece, word, sign, operator, int, float, bytes, text, quoted, unnumbered, marked, piece_at, next_piece, long_operator}
+use Rattle.ottl_text.specs.Tokens.{Piece, word, sign, operator, float, bytes, text, quoted, unnumbered, marked, piece_at, next_piece}
 use Rattle.ottl_print.specs.Names.{is_operator, binary_name}
-use Rattle.ottl_print.specs.Texts.{letter_of, escaped_byte, escaped}
-use Rattle.ottl_print.proofs.Pieces.{Stops, Passes, Free, run, not_empty, no_digit, free_first, free_digits, signed_long, seam, exponent_long, exponent_stops, float_long, float_front, digits_long, no_bytes, number_no_bytes, digit_blank, drop_seam, take_seam, some_length}
+use Rattle.ottl_print.specs.Texts.{letter_of, escaped}
+use Rattle.ottl_print.proofs.Pieces.{Stops, Passes, Free, run, not_empty, signed_long, seam, exponent_long, exponent_stops, float_long, float_front, digits_long, no_bytes, number_no_bytes, digit_blank, drop_seam, some_length}
 
 -- ---- floats
 module _ (A fs ex rest : List ℕ) where

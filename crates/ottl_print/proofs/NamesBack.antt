@@ -1,6 +1,6 @@
 -- Names read back what they print.
 -- For the law of laws::prints_as_itself.
-use Rattle.std.proofs.Common.{◌≡◌, ℕ, Bool, true, false, cond, ◌&&◌, ◌||◌, List, [], ◌∷◌, ◌++◌, Ok, Result, Option, Some, None, codes, refl, sym, ap, ◌∙◌, true≢false}
+use Rattle.std.proofs.Common.{◌≡◌, ℕ, Bool, true, false, ◌&&◌, List, [], ◌∷◌, ◌++◌, Ok, refl, sym, true≢false}
 use Rattle.std.specs.List.{list_all}
 use Rattle.ottl_lengths.specs.Lengths.{is_letter, is_of_word}
 use Rattle.ottl_text.specs.declared.expression.Context.{Context}
@@ -18,7 +18,7 @@ use Rattle.ottl_text.specs.Grammar.{path_at, unary_at, binary_at, named_at, word
 use Rattle.ottl_text.specs.Tokens.{word, next_piece}
 use Rattle.ottl_print.specs.Names.{unary_name, binary_name, is_operator, root_name}
 use Rattle.ottl_print.specs.Printing.{is_like}
-use Rattle.ottl_print.proofs.Pieces.{Passes, Free, word_piece}
+use Rattle.ottl_print.proofs.Pieces.{Free, word_piece}
 use Rattle.ottl_print.proofs.Literals.{split, passes_from}
 
 abbrev pub is_name : List ℕ → Bool

@@ -1,7 +1,6 @@
 -- What a reader of the grammar has read.
 -- For the law of laws::prints_as_itself.
-use Rattle.std.proofs.Common.{◌≡◌, ℕ, zero, suc, ◌+◌, ◌-◌, ◌*◌, ◌^◌, ◌<◌, ◌≤◌, ◌⊎◌, inl, inr, ℤ, pos, negsuc, Bool, true, false, cond, ◌&&◌, ◌||◌, List, [], ◌∷◌, ◌++◌, length, eqb, nat_lt, nat_le, take, drop, Ok, Err, Result, Option, Some, None, is_some, codes, refl, sym, ap, ◌∙◌, subst, arith, true≢false, eqb-true, length-append, length-take, length-drop, append_assoc}
-use Rattle.std.proofs.lemmas.Bool.Decides.{nat_tests}
+use Rattle.std.proofs.Common.{◌≡◌, ℕ, zero, suc, ◌+◌, ◌<◌, ◌⊎◌, inl, inr, ℤ, pos, Bool, true, false, cond, ◌&&◌, List, [], ◌∷◌, ◌++◌, length, Ok, Err, Result, Option, Some, None, codes, refl, sym, ap, subst, arith, true≢false, eqb-true, length-append}
 use Rattle.std.specs.Prelude.{◌==◌, bytes_eq, if◌then◌else◌}
 use Rattle.std.specs.Str.{is_utf8}
 use Rattle.std.specs.Float.{Float}
@@ -14,11 +13,10 @@ use Rattle.ottl_text.specs.declared.expression.Key.{Key}
 use Rattle.ottl_text.specs.declared.expression.Key.TheVariants as keys
 use Rattle.ottl_text.specs.declared.expression.Root.{Root}
 use Rattle.ottl_text.specs.declared.expression.Root.TheVariants as roots
-use Rattle.ottl_text.specs.declared.fault.Fault.{Fault}
 use Rattle.ottl_text.specs.declared.fault.FaultKind.{FaultKind}
 use Rattle.ottl_text.specs.Gives.{Read, ◌>>=◌}
 use Rattle.ottl_text.specs.Literals.{int_of, float_of, bytes_of, text_of, in_utf8, fits, are_digits, unescape, decoded}
-use Rattle.ottl_text.specs.Names.{takes_keys, enumeration_of, number_root_of, span_root_of, event_root_of, outer_root_of, root_of, or_else, without, begins_with}
+use Rattle.ottl_text.specs.Names.{enumeration_of, number_root_of, span_root_of, outer_root_of, root_of, or_else, without}
 use Rattle.ottl_text.specs.Tokens.{Piece, end, word, int, float, bytes, text, sign, operator, next_piece}
 use Rattle.ottl_text.specs.Grammar.{at, next_at, after_sign, is_the_sign, text_at, bytes_at, int_at, float_at, key_of, key_at, keyed}
 use Rattle.ottl_print.proofs.Literals.{split}

@@ -1,15 +1,15 @@
 -- Pieces of a text, in front of what ends them.
 -- For the law of laws::prints_as_itself.
-use Rattle.std.proofs.Common.{◌≡◌, ℕ, zero, suc, ◌+◌, ◌<◌, ◌≤◌, Bool, true, false, cond, ◌&&◌, ◌||◌, List, [], ◌∷◌, ◌++◌, length, get_or, take, drop, eqb, nat_lt, Ok, Result, codes, refl, sym, ap, ◌∙◌, subst, arith, true≢false, ne_eqb, lt-ltb, append_assoc}
+use Rattle.std.proofs.Common.{◌≡◌, ℕ, suc, ◌+◌, Bool, true, false, cond, ◌&&◌, ◌||◌, List, [], ◌∷◌, ◌++◌, length, get_or, take, drop, nat_lt, Ok, refl, sym, ap, ◌∙◌, arith, true≢false, ne_eqb, lt-ltb, append_assoc}
 use Rattle.std.proofs.lemmas.Bool.Decides.{nat_tests}
 use Rattle.std.proofs.lemmas.List.Sums.{take_while-cons}
 use Rattle.std.proofs.Math.Seq.{take-append_seam, drop-append_seam}
-use Rattle.std.specs.Prelude.{take_while, ◌==◌}
+use Rattle.std.specs.Prelude.{◌==◌}
 use Rattle.std.specs.Char.{is_ascii_digit}
 use Rattle.std.specs.Fmt.{sign_text}
 use Rattle.std.specs.Float.Numeral.{exponent_text}
-use Rattle.ottl_lengths.specs.Lengths.{is_blank, is_letter, is_of_word, is_hex, front_len, skip_blank, sign_len, digits_len, bytes_len, int_len, exponent_len, float_len, word_len, quote_at, quote_from}
-use Rattle.ottl_text.specs.Tokens.{Piece, word, sign, operator, int, float, bytes, text, quoted, unnumbered, marked, piece_at, next_piece, long_operator}
+use Rattle.ottl_lengths.specs.Lengths.{is_letter, is_of_word, is_hex, front_len, skip_blank, sign_len, digits_len, bytes_len, int_len, exponent_len, float_len, word_len}
+use Rattle.ottl_text.specs.Tokens.{word, int, float, unnumbered, piece_at, next_piece}
 
 abbrev pub Stops : (ℕ → Bool) → List ℕ → Type 0
 Stops p [] = Unit {0}

@@ -1,32 +1,27 @@
 -- The text of a tree is read back, by induction on the tree.
 -- For the law of laws::prints_as_itself.
-use Rattle.std.proofs.Common.{◌≡◌, ℕ, zero, suc, ◌+◌, ◌-◌, ◌<◌, ◌≤◌, max, Bool, true, false, cond, not, ◌&&◌, ◌||◌, List, [], ◌∷◌, ◌++◌, length, eqb, nat_lt, nat_le, Ok, Err, Result, Option, Some, None, codes, refl, sym, ap, ◌∙◌, subst, arith, true≢false, append_assoc, append-nil}
+use Rattle.std.proofs.Common.{◌≡◌, ℕ, ◌+◌, ◌<◌, ◌≤◌, Bool, true, false, cond, ◌||◌, List, [], ◌∷◌, ◌++◌, length, nat_lt, nat_le, Ok, Option, Some, None, refl, sym, ap, ◌∙◌, arith, true≢false}
 use Rattle.std.proofs.lemmas.Bool.Decides.{nat_tests}
 use Rattle.std.specs.Prelude.{◌==◌}
-use Rattle.hex.specs.Hex.{IsBytes, encode_lower}
+use Rattle.hex.specs.Hex.{IsBytes}
 use Rattle.ottl_text.specs.declared.expression.Context.{Context}
-use Rattle.ottl_text.specs.declared.expression.Key.{Key}
-use Rattle.ottl_text.specs.declared.expression.Path.{Path}
 use Rattle.ottl_text.specs.declared.expression.Literal.{Literal}
 use Rattle.ottl_text.specs.declared.expression.Literal.TheVariants as literals
 use Rattle.ottl_text.specs.declared.expression.Unary.{Unary}
 use Rattle.ottl_text.specs.declared.expression.Unary.TheVariants as one
 use Rattle.ottl_text.specs.declared.expression.Binary.{Binary}
 use Rattle.ottl_text.specs.declared.expression.Binary.TheVariants as two
-use Rattle.ottl_text.specs.Gives.{Read}
 use Rattle.ottl_text.specs.Literals.{fits, in_utf8}
-use Rattle.ottl_text.specs.Names.{operator_of, precedence, takes_keys}
+use Rattle.ottl_text.specs.Names.{precedence, takes_keys}
 use Rattle.ottl_text.specs.Syntax.{Term, literal, path, is_root_span, unary, binary, is_match, substring, cased, concat, is_condition, is_value, is_not, suits}
-use Rattle.ottl_text.specs.Grammar.{is_the_sign, word_at, operand, expression, operators}
-use Rattle.ottl_text.specs.Tokens.{Piece, end, word, int, float, bytes, text as quoted_text, sign, operator, piece_at, next_piece}
-use Rattle.ottl_print.specs.Names.{unary_name, binary_name, is_operator, root_name}
-use Rattle.ottl_print.specs.Texts.{escaped, in_quotes, keys_text}
-use Rattle.ottl_print.specs.Printing.{tightness, is_row, argument, operand_of_one, Size, alone, levels_at, joined_size, has_parentheses, called_size, size, in_parentheses, operand_text, first_of, next_of, closing, is_like, text}
-use Rattle.ottl_print.proofs.Pieces.{Free}
-use Rattle.ottl_print.proofs.Marks.{text_piece, sign_40, sign_41, sign_44, sign_93, piece_of_operator, operator_piece, operator_again}
-use Rattle.ottl_print.proofs.Literals.{IsWhole, whole_number, int_read, IsFloat, float_read, bytes_read}
-use Rattle.ottl_print.proofs.NamesBack.{name_piece, in_context, root_is_name, unary_is_name, root_word, unary_word, binary_word, is_name}
-use Rattle.ottl_print.proofs.Steps.{Begins, Ends, FineKeys, keys_ok, path_ok, literal_int, literal_float, literal_of_text, literal_bytes, root_span_ok, IsArgument, unary_ok, binary_ok, match_ok, substring_ok, not_ok, inner_ok, operand_ok, expression_ok, stops_ok, goes_on}
+use Rattle.ottl_text.specs.Grammar.{is_the_sign}
+use Rattle.ottl_text.specs.Tokens.{end, sign, piece_at, next_piece}
+use Rattle.ottl_print.specs.Names.{binary_name, is_operator}
+use Rattle.ottl_print.specs.Printing.{tightness, argument, operand_of_one, Size, levels_at, joined_size, has_parentheses, called_size, size, is_like}
+use Rattle.ottl_print.proofs.Marks.{sign_41, sign_44, sign_93, piece_of_operator, operator_piece, operator_again}
+use Rattle.ottl_print.proofs.Literals.{IsFloat}
+use Rattle.ottl_print.proofs.NamesBack.{in_context, is_name}
+use Rattle.ottl_print.proofs.Steps.{IsShallow, Ends, FineKeys}
 
 -- ---- what ends an expression
 is_some_binary : Option Binary → Bool
@@ -248,7 +243,7 @@ abbrev mutual
   Fine c (path p) = (in_context c p.root ≡ true) × ((takes_keys p.root || (length p.keys == 0)) ≡ true) × FineKeys p.keys
   Fine c is_root_span = Unit {0}
   Fine c (unary u x) = (suits_one u x ≡ true) × Fine c x
-  Fine c (binary b x y) = (suits b x ≡ true) × (suits b y ≡ true) × Fine c x × Fine c y
+  Fine c (binary b x y) = (suits b x ≡ true) × (suits b y ≡ true) × Fine c x × Fine c y × (is_operator b ≡ true → IsShallow b x y)
   Fine c (is_match x pattern) = (is_value x ≡ true) × (in_utf8 pattern ≡ Ok pattern) × Fine c x
   Fine c (substring x y z) = (is_value x ≡ true) × (is_value y ≡ true) × (is_value z ≡ true) × Fine c x × Fine c y × Fine c z
   Fine c (cased k x) = (is_value x ≡ true) × Fine c x

@@ -1,9 +1,9 @@
 -- The text of a tree is read back, by induction on the tree.
 -- For the law of laws::prints_as_itself.
-use Rattle.std.proofs.Common.{◌≡◌, ℕ, zero, suc, ◌+◌, ◌-◌, ◌<◌, ◌≤◌, max, Bool, true, false, cond, not, ◌&&◌, ◌||◌, List, [], ◌∷◌, ◌++◌, length, eqb, nat_lt, nat_le, Ok, Err, Result, Option, Some, None, codes, refl, sym, ap, ◌∙◌, subst, arith, true≢false, append_assoc, append-nil}
+use Rattle.std.proofs.Common.{◌≡◌, ℕ, zero, suc, ◌+◌, ◌-◌, ◌<◌, ◌≤◌, Bool, true, false, cond, ◌||◌, List, [], ◌∷◌, ◌++◌, length, nat_lt, Ok, codes, refl, sym, ap, ◌∙◌, arith, append_assoc}
 use Rattle.std.specs.Prelude.{◌==◌}
 use Rattle.std.specs.Fmt.{signed_decimal}
-use Rattle.hex.specs.Hex.{IsBytes, encode_lower}
+use Rattle.hex.specs.Hex.{encode_lower}
 use Rattle.ottl_text.specs.declared.expression.Context.{Context}
 use Rattle.ottl_text.specs.declared.expression.Key.{Key}
 use Rattle.ottl_text.specs.declared.expression.Path.{Path}
@@ -13,11 +13,10 @@ use Rattle.ottl_text.specs.declared.expression.Unary.{Unary}
 use Rattle.ottl_text.specs.declared.expression.Unary.TheVariants as one
 use Rattle.ottl_text.specs.declared.expression.Binary.{Binary}
 use Rattle.ottl_text.specs.Gives.{Read}
-use Rattle.ottl_text.specs.Literals.{fits, in_utf8}
-use Rattle.ottl_text.specs.Names.{precedence, takes_keys}
+use Rattle.ottl_text.specs.Literals.{in_utf8}
+use Rattle.ottl_text.specs.Names.{precedence}
 use Rattle.ottl_text.specs.Syntax.{Term, literal, path, is_root_span, unary, binary, is_match, substring, cased, concat, is_condition, is_value, is_not, suits}
 use Rattle.ottl_text.specs.declared.expression.Case.{Case}
-use Rattle.ottl_text.specs.declared.expression.Case.TheVariants as cases
 use Rattle.std.specs.Str.{is_utf8, chars}
 use lib.Utf8.{encode}
 use Rattle.ottl_text.specs.Grammar.{is_the_sign, next_at, argument_at, by_piece, cased_at, concat_at, literal_at, inner_at, word_at, operand, expression, operators, values}
@@ -25,13 +24,13 @@ use Rattle.ottl_print.proofs.Parts.{bind_ok, if_ok, no_ok, next_began, eq_of_tes
 use Rattle.ottl_text.specs.Tokens.{Piece, end, word, int, float, bytes, text as quoted_text, sign, operator, next_piece}
 use Rattle.ottl_print.specs.Names.{unary_name, binary_name, case_name, is_operator, root_name}
 use Rattle.ottl_print.specs.Texts.{escaped, in_quotes, keys_text, float_text, literal_text}
-use Rattle.ottl_print.specs.Printing.{tightness, argument, operand_of_one, Size, alone, levels_at, joined_size, has_parentheses, called_size, size, in_parentheses, operand_text, first_of, next_of, closing, is_like, concat_text, text, values_text}
+use Rattle.ottl_print.specs.Printing.{tightness, argument, Size, levels_at, joined_size, has_parentheses, size, in_parentheses, operand_text, first_of, next_of, closing, is_like, concat_text, text, values_text}
 use Rattle.ottl_print.proofs.Pieces.{Free}
 use Rattle.ottl_print.proofs.Marks.{text_piece, sign_40, sign_41, sign_44, sign_91, sign_93, piece_of_operator, operator_piece, operator_again}
-use Rattle.ottl_print.proofs.Literals.{IsWhole, whole_number, int_read, IsFloat, float_read, bytes_read}
-use Rattle.ottl_print.proofs.NamesBack.{name_piece, in_context, root_is_name, unary_is_name, root_word, unary_word, binary_word, is_name}
-use Rattle.ottl_print.proofs.Steps.{Begins, Ends, FineKeys, keys_ok, path_ok, literal_int, literal_float, literal_of_text, literal_bytes, root_span_ok, IsArgument, unary_ok, binary_ok, match_ok, substring_ok, not_ok, inner_ok, operand_ok, expression_ok, stops_ok, goes_on, cased_ok, delimiter_ok, concat_ok, last_value, more_values}
-use Rattle.ottl_print.proofs.ReadsBack.{ends_41, ends_44, ends_93, ends_operator, ends_more, end_of, end_ok, precedence_some, tight_some, left_end, FineLiteral, suits_one, Fine, FineValue, FineValues, function_suits, binary_is_name, levels_at_least, row_levels, from_not_below, at_most_is_true, is_not_only, is_like_only}
+use Rattle.ottl_print.proofs.Literals.{whole_number, int_read, float_read, bytes_read}
+use Rattle.ottl_print.proofs.NamesBack.{name_piece, root_is_name, unary_is_name, root_word, unary_word, binary_word, is_name}
+use Rattle.ottl_print.proofs.Steps.{IsShallow, Begins, Ends, keys_ok, path_ok, literal_int, literal_float, literal_of_text, literal_bytes, root_span_ok, IsArgument, unary_ok, binary_ok, match_ok, substring_ok, not_ok, inner_ok, operand_ok, expression_ok, stops_ok, goes_on, cased_ok, delimiter_ok, concat_ok, last_value, more_values}
+use Rattle.ottl_print.proofs.ReadsBack.{ends_41, ends_44, ends_93, ends_operator, ends_more, end_of, end_ok, tight_some, left_end, FineLiteral, suits_one, Fine, FineValue, FineValues, function_suits, binary_is_name, levels_at_least, row_levels, from_not_below, at_most_is_true, is_not_only, is_like_only}
 
 module _ (sparing : Bool) (c : Context) (behind : ℕ) where
   -- the expressions that nest one level less
@@ -211,17 +210,17 @@ module _ (sparing : Bool) (c : Context) (behind : ℕ) where
   right_levels b y = levels_at (precedence b + 1) y (size sparing y).levels
 
   -- behind the operand on the left
-  right_reads : (b : Binary) (x y : Term) → RowRead y → (m least : ℕ) (rest : List ℕ) → right_levels b y ≤ m → least ≤ precedence b → is_operator b ≡ true → suits b x ≡ true → suits b y ≡ true → Ends (precedence b + 1) rest
+  right_reads : (b : Binary) (x y : Term) → RowRead y → (m least : ℕ) (rest : List ℕ) → right_levels b y ≤ m → least ≤ precedence b → is_operator b ≡ true → suits b x ≡ true → suits b y ≡ true → IsShallow b x y → Ends (precedence b + 1) rest
       → operators behind c (suc m) least x (32 ∷ (binary_name b ++ 32 ∷ (operand_text (precedence b + 1) y (text sparing c y) ++ rest))) ≡ operators behind c m least (binary b x y) rest
-  right_reads b x y reads m least rest few tight o suits_x suits_y ends =
+  right_reads b x y reads m least rest few tight o suits_x suits_y shallow ends =
       let more = operand_text (precedence b + 1) y (text sparing c y) ++ rest in
       goes_on behind c m least b x y (32 ∷ (binary_name b ++ 32 ∷ more)) (32 ∷ more) rest (piece_of_operator b) (operator_piece b more o) (operator_again b o) (at_most_is_true least (precedence b) tight)
-      (operand_reads y reads m (precedence b + 1) (32 ∷ more) rest few ends (skip_space more)) suits_x suits_y
+      (operand_reads y reads m (precedence b + 1) (32 ∷ more) rest few ends (skip_space more)) suits_x suits_y shallow
 
-  operator_reads : (b : Binary) (x y : Term) → RowRead x → RowRead y → is_operator b ≡ true → suits b x ≡ true → suits b y ≡ true → (w : Bool) → (w ≡ false → precedence b ≤ tightness x)
+  operator_reads : (b : Binary) (x y : Term) → RowRead x → RowRead y → is_operator b ≡ true → suits b x ≡ true → suits b y ≡ true → IsShallow b x y → (w : Bool) → (w ≡ false → precedence b ≤ tightness x)
       → RowReadAs (binary b x y) (joined_size w (size sparing x) (right_levels b y)) (precedence b) (precedence b + 1)
       (in_parentheses w (text sparing c x) ++ (32 ∷ (binary_name b ++ 32 ∷ operand_text (precedence b + 1) y (text sparing c y))))
-  operator_reads b x y reads_x reads_y o suits_x suits_y true bare = λ n m least s rest is few tight ends e.
+  operator_reads b x y reads_x reads_y o suits_x suits_y shallow true bare = λ n m least s rest is few tight ends e.
       let Y = operand_text (precedence b + 1) y (text sparing c y) in
       let P = in_parentheses true (text sparing c x) in
       let R = 32 ∷ (binary_name b ++ 32 ∷ (Y ++ rest)) in
@@ -229,8 +228,8 @@ module _ (sparing : Bool) (c : Context) (behind : ℕ) where
       let again : (P ++ (32 ∷ (binary_name b ++ 32 ∷ Y))) ++ rest ≡ P ++ R = append_assoc P (32 ∷ (binary_name b ++ 32 ∷ Y)) rest ∙ ap (λ l. P ++ (32 ∷ l)) (append_assoc (binary_name b) (32 ∷ Y) rest) in
       expression_ok behind c n least s R x (inner_reads x reads_x n s R (omega (arith, few)) (e ∙ ap next_piece again))
       ∙ ap (λ k. operators behind c k least x R) one_more
-      ∙ right_reads b x y reads_y m least rest (omega (arith, few, is)) tight o suits_x suits_y ends
-  operator_reads b x y reads_x reads_y o suits_x suits_y false bare = λ n m least s rest is few tight ends e.
+      ∙ right_reads b x y reads_y m least rest (omega (arith, few, is)) tight o suits_x suits_y shallow ends
+  operator_reads b x y reads_x reads_y o suits_x suits_y shallow false bare = λ n m least s rest is few tight ends e.
       let Y = operand_text (precedence b + 1) y (text sparing c y) in
       let P = text sparing c x in
       let R = 32 ∷ (binary_name b ++ 32 ∷ (Y ++ rest)) in
@@ -238,19 +237,19 @@ module _ (sparing : Bool) (c : Context) (behind : ℕ) where
       let again : (P ++ (32 ∷ (binary_name b ++ 32 ∷ Y))) ++ rest ≡ P ++ R = append_assoc P (32 ∷ (binary_name b ++ 32 ∷ Y)) rest ∙ ap (λ l. P ++ (32 ∷ l)) (append_assoc (binary_name b) (32 ∷ Y) rest) in
       reads_x n (suc m) least s R (omega (arith, is)) (omega (arith, few)) (omega (arith, tight, bound))
       (ends_operator (end_of x) b (Y ++ rest) o (left_end b x o bound suits_x)) (e ∙ ap next_piece again)
-      ∙ right_reads b x y reads_y m least rest (omega (arith, few, is)) tight o suits_x suits_y ends
+      ∙ right_reads b x y reads_y m least rest (omega (arith, few, is)) tight o suits_x suits_y shallow ends
 
   first_false : (p q : Bool) → (p || q) ≡ false → p ≡ false
   first_false true q e = e
   first_false false q e = refl
 
-  binary_reads : (b : Binary) (x y : Term) → RowRead x → RowRead y → suits b x ≡ true → suits b y ≡ true → RowRead (binary b x y)
-  binary_reads b x y reads_x reads_y suits_x suits_y = go (is_operator b) refl
+  binary_reads : (b : Binary) (x y : Term) → RowRead x → RowRead y → suits b x ≡ true → suits b y ≡ true → (is_operator b ≡ true → IsShallow b x y) → RowRead (binary b x y)
+  binary_reads b x y reads_x reads_y suits_x suits_y shallow = go (is_operator b) refl
     where
       go : (o : Bool) → is_operator b ≡ o → RowRead (binary b x y)
       go true o =
           rw o
-          (operator_reads b x y reads_x reads_y o suits_x suits_y (has_parentheses sparing b x (size sparing x) (right_levels b y))
+          (operator_reads b x y reads_x reads_y o suits_x suits_y (shallow o) (has_parentheses sparing b x (size sparing x) (right_levels b y))
           (λ w. from_not_below (tightness x) (precedence b) (first_false (nat_lt (tightness x) (precedence b)) _ w)))
       go false o =
           rw o
@@ -396,7 +395,7 @@ module _ (sparing : Bool) (c : Context) (behind : ℕ) where
     tree_reads (path p) fine = λ n m least s rest is few tight ends e. alone_reads (path p) n m least s rest is (path_reads p fine n s rest 7 few ends e)
     tree_reads is_root_span fine = λ n m least s rest is few tight ends e. alone_reads is_root_span n m least s rest is (root_span_reads n s rest e)
     tree_reads (unary u x) fine = one_reads u x (tree_reads x fine.1) fine.0
-    tree_reads (binary b x y) fine = binary_reads b x y (tree_reads x fine.2) (tree_reads y fine.3) fine.0 fine.1
+    tree_reads (binary b x y) fine = binary_reads b x y (tree_reads x fine.2) (tree_reads y fine.3) fine.0 fine.1 fine.4
     tree_reads (is_match x p) fine = λ n m least s rest is few tight ends e. alone_reads (is_match x p) n m least s rest is (match_reads x p (tree_reads x fine.2) n s rest (omega (arith, few)) fine.0 fine.1 e)
     tree_reads (substring x y z) fine = λ n m least s rest is few tight ends e.
         alone_reads (substring x y z) n m least s rest is

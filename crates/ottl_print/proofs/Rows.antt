@@ -1,6 +1,13 @@
 -- Worked rows of texts of trees, by computation.
 -- No contract rests on it: it shows the definitions on worked cases.
-use Rattle.std.specs.Prelude.{◌≡◌, ℕ, pos, negsuc, List, [], ◌∷◌, codes, true, false, refl}
+use Rattle.std.specs.Prelude.{◌≡◌, ℕ, zero, suc, pos, negsuc, List, [], ◌∷◌, ◌++◌, map, codes, false, refl, ⊤}
+use Rattle.std.specs.Float.{Float, binary64, float_is_finite}
+use Rattle.std.specs.Fmt.{digits}
+use Rattle.hex.specs.Hex.{encode_with}
+use lib.Ieee.{to_bits, of_bits, round}
+use Rattle.shortest_float.specs.Decimals.{reads, has_decimal, power_from, digits_over}
+use Rattle.shortest_float.specs.Layout.{layout}
+use Rattle.shortest_float.specs.Shortest.{size_text, shortest_text}
 use Rattle.ottl_text.specs.declared.expression.Context.TheVariants as contexts
 use Rattle.ottl_text.specs.declared.expression.Root.{Root}
 use Rattle.ottl_text.specs.declared.expression.Root.TheVariants as roots
@@ -10,7 +17,8 @@ use Rattle.ottl_text.specs.declared.expression.Case.TheVariants as cases
 use Rattle.ottl_text.specs.declared.expression.Literal.TheVariants as literals
 use Rattle.ottl_text.specs.declared.expression.Unary.TheVariants as one
 use Rattle.ottl_text.specs.declared.expression.Binary.TheVariants as two
-use Rattle.ottl_text.specs.Syntax.{Term, literal, path, is_root_span, unary, binary, is_match, substring, cased, concat}
+use Rattle.ottl_text.specs.Syntax.{Term, literal, path, is_root_span, unary, binary, is_match, cased, concat}
+use Rattle.ottl_print.specs.Texts.{float_text}
 use Rattle.ottl_print.specs.Printing.{printed}
 
 abbrev at_root : Root → List Key → Term
@@ -46,3 +54,38 @@ functions = refl
 pub of_events : printed contexts.SpanEvent (binary two.NotEqual (at_root roots.EventName []) (unary one.Text (at_root roots.Name []))) ≡ codes "name != String(span.name)"
 unfolding printed
 of_events = refl
+
+-- whole numbers, the least one too; bytes; floats, with a point before an exponent
+unfoldable numbers_on_literals : ⊤
+unfolding float_is_finite to_bits of_bits round digits reads has_decimal power_from digits_over layout size_text shortest_text float_text printed
+numbers_on_literals = tt
+
+abbrev number : Float → Term
+number x = literal (literals.Float x)
+
+pub wholes : printed contexts.Span (binary two.Less (literal (literals.Int (negsuc 9223372036854775807))) (literal (literals.Int (pos 10)))) ≡ codes "-9223372036854775808 < 10"
+unfolding numbers_on_literals
+wholes = refl
+
+pub of_bytes : printed contexts.Span (binary two.Equal (literal (literals.Bytes (10 ∷ 255 ∷ []))) name) ≡ codes "0x0aff == name"
+unfolding encode_with printed
+of_bytes = refl
+
+pub floats : printed contexts.Span (binary two.Less (number (of_bits binary64 0x4480F0CF064DD592)) (binary two.Add (number (of_bits binary64 0xBFF8000000000000)) (number (of_bits binary64 0x4092C00000000000)))) ≡ codes "1.0e22 < -1.5 + 1200.0"
+unfolding numbers_on_literals
+floats = refl
+
+-- `not`s of `IsRootSpan()`, and their text
+abbrev nots : ℕ → Term
+nots zero = is_root_span
+nots (suc n) = unary one.Not (nots n)
+
+abbrev nots_text : ℕ → List ℕ
+nots_text zero = codes "IsRootSpan()"
+nots_text (suc n) = codes "not " ++ nots_text n
+
+-- more parentheses just where the text with the fewest nests too deep to be read
+pub sparing : map (λ n. printed contexts.Span (binary two.And (binary two.And is_root_span is_root_span) (nots n))) (195 ∷ 196 ∷ []) ≡
+    (codes "IsRootSpan() and IsRootSpan() and " ++ nots_text 195) ∷ (codes "(IsRootSpan() and IsRootSpan()) and " ++ nots_text 196) ∷ []
+unfolding printed
+sparing = refl

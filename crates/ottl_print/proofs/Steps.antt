@@ -1,6 +1,6 @@
 -- The readers of the grammar, where each piece that they want stands in front of them.
 -- For the law of laws::prints_as_itself.
-use Rattle.std.proofs.Common.{◌≡◌, ℕ, zero, suc, ◌+◌, ◌<◌, ◌≤◌, ℤ, Bool, true, false, cond, ◌&&◌, ◌||◌, List, [], ◌∷◌, ◌++◌, length, eqb, nat_lt, nat_le, Ok, Err, Result, Option, Some, None, codes, refl, sym, ap, ◌∙◌, subst, arith, true≢false, append_assoc, append-nil}
+use Rattle.std.proofs.Common.{◌≡◌, ℕ, zero, suc, ◌+◌, ◌<◌, ℤ, true, false, ◌||◌, List, [], ◌∷◌, ◌++◌, length, nat_le, Ok, Option, Some, None, codes, refl, sym, ap, ◌∙◌, arith, append_assoc, append-nil}
 use Rattle.std.specs.Prelude.{◌==◌}
 use Rattle.std.specs.Fmt.{signed_decimal}
 use Rattle.std.specs.Float.{Float}
@@ -9,7 +9,6 @@ use Rattle.ottl_text.specs.declared.expression.Context.{Context}
 use Rattle.ottl_text.specs.declared.expression.Key.{Key}
 use Rattle.ottl_text.specs.declared.expression.Key.TheVariants as keys
 use Rattle.ottl_text.specs.declared.expression.Root.{Root}
-use Rattle.ottl_text.specs.declared.expression.Literal.{Literal}
 use Rattle.ottl_text.specs.declared.expression.Literal.TheVariants as literals
 use Rattle.ottl_text.specs.declared.expression.Unary.{Unary}
 use Rattle.ottl_text.specs.declared.expression.Unary.TheVariants as one
@@ -20,15 +19,15 @@ use Rattle.ottl_text.specs.Names.{case_named}
 use Rattle.ottl_print.specs.Names.{case_name}
 use Rattle.ottl_text.specs.declared.fault.FaultKind.{FaultKind}
 use Rattle.ottl_text.specs.Gives.{Read}
-use Rattle.ottl_text.specs.Literals.{fits, in_utf8, text_of, int_of, float_of, bytes_of}
+use Rattle.ottl_text.specs.Literals.{fits, in_utf8, int_of, float_of}
 use Rattle.ottl_text.specs.Names.{operator_of, precedence, takes_keys}
-use Rattle.ottl_text.specs.Syntax.{Term, literal, path, is_root_span, unary, binary, is_match, substring, cased, concat, is_condition, is_value, suits}
-use Rattle.ottl_text.specs.Grammar.{next_at, after_sign, is_the_sign, joined, text_at, bytes_at, int_at, float_at, key_of, key_at, keyed, path_at, pattern_at, root_span_at, literal_at, argument_at, unary_at, binary_at, match_at, substring_at, not_at, inner_at, by_piece, operand, by_operator, case_of, case_at, delimiter_of, delimiter_at, cased_at, behind_value, concat_at, values, expression, operators}
-use Rattle.ottl_text.specs.Tokens.{Piece, end, word, int, float, bytes, text, sign, operator, next_piece}
+use Rattle.ottl_text.specs.Syntax.{Term, path, is_root_span, unary, binary, is_match, substring, cased, concat, is_condition, is_value, suits, depth}
+use Rattle.ottl_text.specs.Grammar.{most_deep, next_at, after_sign, is_the_sign, joined, text_at, bytes_at, int_at, float_at, key_of, key_at, keyed, path_at, pattern_at, root_span_at, literal_at, argument_at, unary_at, binary_at, match_at, substring_at, not_at, inner_at, by_piece, operand, by_operator, case_at, delimiter_at, cased_at, concat_at, values, expression, operators}
+use Rattle.ottl_text.specs.Tokens.{Piece, int, float, bytes, text, sign, next_piece}
 use Rattle.ottl_print.specs.Texts.{escaped, in_quotes, float_text, key_text, keys_text}
 use Rattle.ottl_print.proofs.Pieces.{Free}
 use Rattle.ottl_print.proofs.Marks.{text_piece, text_back, sign_91, sign_93}
-use Rattle.ottl_print.proofs.Literals.{IsWhole, whole_number, int_read, IsFloat, float_read, bytes_read, bytes_back}
+use Rattle.ottl_print.proofs.Literals.{whole_number, int_read, bytes_back}
 
 -- what a text begins with, and what is left
 abbrev pub Begins : List ℕ → Piece → List ℕ → Type 0
@@ -42,6 +41,10 @@ pub record Ends (least : ℕ) (rest : List ℕ) : Type 0 where
   pub is : Begins rest piece left
   pub no_key : is_the_sign 91 piece ≡ false
   pub stops : (b : Binary) → operator_of piece ≡ Some b → nat_le least (precedence b) ≡ false
+
+-- two operands and the operator between them are no deeper than one may be
+abbrev pub IsShallow : Binary → Term → Term → Type 0
+IsShallow b x y = nat_le (depth (binary b x y)) most_deep ≡ true
 
 abbrev pub FineKey : Key → Type 0
 FineKey (keys.Text t) = in_utf8 t ≡ Ok t
@@ -207,14 +210,14 @@ module _ (behind : ℕ) where
     unfolding operators
     stops_ok n least t rest h = rw (next_ok rest h.left h.piece h.is) (stopped (operator_of h.piece) least _ (Ok (t, rest)) h.stops)
 
-    joined_ok : (b : Binary) (x y : Term) (s : List ℕ) → suits b x ≡ true → suits b y ≡ true → joined behind b x y s ≡ Ok (binary b x y)
+    joined_ok : (b : Binary) (x y : Term) (s : List ℕ) → suits b x ≡ true → suits b y ≡ true → IsShallow b x y → joined behind b x y s ≡ Ok (binary b x y)
     unfolding joined
-    joined_ok b x y s e f = rw (e, f) refl
+    joined_ok b x y s e f g = rw (e, f, g) refl
 
     pub goes_on : (n least : ℕ) (b : Binary) (x y : Term) (s a rest : List ℕ) (p : Piece) → Begins s p a → operator_of p ≡ Some b → nat_le least (precedence b) ≡ true
-        → expression behind c n (precedence b + 1) a ≡ Ok (y, rest) → suits b x ≡ true → suits b y ≡ true → operators behind c (suc n) least x s ≡ operators behind c n least (binary b x y) rest
+        → expression behind c n (precedence b + 1) a ≡ Ok (y, rest) → suits b x ≡ true → suits b y ≡ true → IsShallow b x y → operators behind c (suc n) least x s ≡ operators behind c n least (binary b x y) rest
     unfolding operators
-    goes_on n least b x y s a rest p e f g h i j = rw (next_ok s a p e, f, g, h, joined_ok b x y s i j) refl
+    goes_on n least b x y s a rest p e f g h i j k = rw (next_ok s a p e, f, g, h, joined_ok b x y s i j k) refl
 
     -- the last value of `Concat`, and one that others follow
     pub last_value : (n : ℕ) (t : Term) (s a b d rest : List ℕ) → IsArgument (expression behind c n) s t a → Begins a (sign 93) b → delimiter_at behind b ≡ Ok (d, rest) → values behind c (suc n) s ≡ Ok (unary one.Like t, d, rest)

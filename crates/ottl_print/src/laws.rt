@@ -5,3 +5,8 @@ ghost use Rattle.ottl_print.specs.Laws as spec;
 pub fn prints_as_itself()
     ensures reads_back { spec.PrintsAsItself }
 {}
+
+/// A condition that parses is a tree at most 600 deep, so that asking it takes little stack.
+pub fn is_not_deep()
+    ensures at_most_600 { spec.IsNotDeep }
+{}

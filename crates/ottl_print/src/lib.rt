@@ -5,5 +5,7 @@ mod laws;
 mod names;
 mod sizes;
 mod texts;
+mod tree_text;
 
-pub use laws::prints_as_itself;
+pub use laws::{is_not_deep, prints_as_itself};
+pub use tree_text::print;

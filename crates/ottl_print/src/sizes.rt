@@ -7,7 +7,10 @@ ghost use Rattle.ottl_print.specs.Sizes.{IsCapped, IsSizeOf};
 use crate::names::{is_operator, precedence};
 use ottl_text::{Binary, Expression, Unary};
 
-/// One level more than may nest.
+/// So many levels may nest, or operators stand in a row.
+pub(crate) const MOST_LEVELS: usize = 200;
+
+/// One level more.
 const TOO_MANY: usize = 201;
 
 /// The levels that a text needs, and the operators that stand in it in a row outside parentheses.
@@ -24,7 +27,7 @@ fn capped(n: usize) -> usize
     if n > TOO_MANY { TOO_MANY } else { n }
 }
 
-/// So many levels more.
+/// These levels, and `by` more.
 fn more(levels: usize, by: usize) -> usize
     requires { (levels ≤ 201) × (by ≤ 2) }
     ensures small { result ≤ 201 }
@@ -43,7 +46,8 @@ fn larger(left: usize, right: usize) -> usize
 
 /// How tight the outermost operator binds.
 pub(crate) fn tightness(expression: &Expression) -> u8
-    ensures { result ≡ spec.tightness (term_of expression.now) }
+    ensures same { result ≡ spec.tightness (term_of expression.now) }
+    ensures small { result ≤ 6 }
 {
     match expression {
         Expression::Binary(binary, _, _) => {
@@ -121,9 +125,10 @@ fn joined(parentheses: bool, left: Size, right: usize) -> Size
 /// Whether parentheses save levels: the operand on the left and what follows it take more in a row.
 fn saves_levels(sparing: bool, left: &Expression, size: Size, right: usize) -> bool
     requires { (size.row ≤ 201) × (right ≤ 201) }
-    ensures { (s : spec.Size) (n : ℕ) → IsSizeOf s size.levels size.row → IsCapped right n → s.levels ≤ 200
+    ensures { (s : spec.Size) (n : ℕ) → IsSizeOf s size.levels size.row → IsCapped right n → (sparing ≡ true → s.levels ≤ 200)
         → result ≡ spec.saves_levels sparing (term_of left.now) s n }
 {
+    // Operators in a row count as levels, so parentheses may save some (D-357).
     let is_long = size.levels < size.row + 2 + right;
     if sparing && is_row(left) {
         is_long
@@ -141,7 +146,7 @@ pub(crate) fn has_parentheses(
     right: usize,
 ) -> bool
     requires { (size.row ≤ 201) × (right ≤ 201) }
-    ensures { (s : spec.Size) (n : ℕ) → IsSizeOf s size.levels size.row → IsCapped right n → s.levels ≤ 200
+    ensures { (s : spec.Size) (n : ℕ) → IsSizeOf s size.levels size.row → IsCapped right n → (sparing ≡ true → s.levels ≤ 200)
         → result ≡ spec.has_parentheses sparing binary (term_of left.now) s n }
 {
     let is_loose = tightness(left) < precedence(binary);
@@ -163,7 +168,7 @@ fn operator_size(sparing: bool, binary: Binary, left: &Expression, size: Size, r
     joined(parentheses, size, right)
 }
 
-/// How tight what a function takes has to bind.
+/// The least tightness of what a function takes.
 pub(crate) const ARGUMENT: u8 = 4;
 
 /// How tight what it takes has to bind.

@@ -1,5 +1,5 @@
-//! The texts of literals, keys and paths, put behind other bytes.
-ghost use Rattle.std.specs.Prelude.{◌≡◌, ◌++◌, OnOk};
+//! The texts of literals, keys and paths, put behind another.
+ghost use Rattle.std.specs.Prelude.{◌≡◌, ◌<◌, [], ◌∷◌, ◌++◌, IsAscii, OnOk, encode_utf8, string_bytes};
 ghost use Rattle.std.specs.Fmt.{signed_decimal};
 ghost use Rattle.ottl_print.specs.Names.{root_name};
 ghost use Rattle.ottl_print.specs.Texts as spec;
@@ -10,181 +10,202 @@ use ottl_text::{Context, Key, Literal, Path, Root};
 use std::alloc::{AllocError, Global};
 
 /// A text in quotes.
-pub(crate) fn put_quoted(bytes: &mut Vec<u8>, text: &[u8]) -> Result<(), AllocError>
-    ensures { OnOk result (bytes.new.items ≡ bytes.old.items ++ spec.in_quotes text.now) }
+pub(crate) fn put_quoted(text: &mut String, said: &str) -> Result<(), AllocError>
+    ensures { OnOk result (string_bytes text.new ≡ string_bytes text.old ++ spec.in_quotes said.now) }
 {
-    bytes.push(b'"')?;
-    put_escaped(bytes, text)?;
-    bytes.push(b'"')?;
+    text.push_str("\"")?;
+    put_escaped(text, said)?;
+    text.push_str("\"")?;
     Ok(())
 }
 
-/// A text, with a backslash before each byte that needs one.
-fn put_escaped(bytes: &mut Vec<u8>, text: &[u8]) -> Result<(), AllocError>
-    ensures { OnOk result (bytes.new.items ≡ bytes.old.items ++ spec.escaped text.now) }
+/// What a text says, with a backslash before each letter that needs one.
+fn put_escaped(text: &mut String, said: &str) -> Result<(), AllocError>
+    ensures { OnOk result (string_bytes text.new ≡ string_bytes text.old ++ spec.escaped said.now) }
 {
-    for byte in text {
-        put_byte(bytes, *byte)?;
+    for letter in said.chars() {
+        put_letter(text, letter)?;
     }
     Ok(())
 }
 
-/// A byte of a text.
-fn put_byte(bytes: &mut Vec<u8>, byte: u8) -> Result<(), AllocError>
-    ensures { OnOk result (bytes.new.items ≡ bytes.old.items ++ spec.escaped_byte byte) }
+/// A letter of what a text says.
+#[tactic(auto, using(crate::proofs::Escapes::stays, crate::proofs::Escapes::turned))]
+fn put_letter(text: &mut String, letter: char) -> Result<(), AllocError>
+    ensures { OnOk result (string_bytes text.new ≡ string_bytes text.old ++ spec.escaped (encode_utf8 letter)) }
 {
-    let letter = letter_of(byte);
-    if letter == 0 {
-        bytes.push(byte)?;
+    let behind = letter_of(letter);
+    if behind == '\0' {
+        text.push(letter)?;
         return Ok(());
     }
-    bytes.push(b'\\')?;
-    bytes.push(letter)?;
+    text.push_str("\\")?;
+    text.push(behind)?;
     Ok(())
 }
 
-/// The letter that stands for a byte behind a backslash, or 0.
-fn letter_of(byte: u8) -> u8
-    ensures { result ≡ spec.letter_of byte }
+/// The letter that stands for another behind a backslash, or 0.
+fn letter_of(letter: char) -> char
+    ensures { result ≡ spec.letter_of letter }
 {
-    match byte {
-        b'"' => b'"',
-        b'\\' => b'\\',
-        7 => b'a',
-        8 => b'b',
-        12 => b'f',
-        10 => b'n',
-        13 => b'r',
-        9 => b't',
-        11 => b'v',
-        _ => 0,
+    match letter {
+        '"' => '"',
+        '\\' => '\\',
+        '\u{7}' => 'a',
+        '\u{8}' => 'b',
+        '\u{c}' => 'f',
+        '\n' => 'n',
+        '\r' => 'r',
+        '\t' => 't',
+        '\u{b}' => 'v',
+        _ => '\0',
     }
 }
 
 /// A whole number.
-fn put_int(bytes: &mut Vec<u8>, number: i64) -> Result<(), AllocError>
-    ensures { OnOk result (bytes.new.items ≡ bytes.old.items ++ signed_decimal number) }
+fn put_int(text: &mut String, number: i64) -> Result<(), AllocError>
+    ensures { OnOk result (string_bytes text.new ≡ string_bytes text.old ++ signed_decimal number) }
 {
     let mut buffer = Buffer::new();
-    bytes.extend_from_slice(buffer.format(number).as_bytes())?;
+    text.push_str(buffer.format(number))?;
     Ok(())
 }
 
 /// A float. Nothing is put for one that isn't finite: no text is read as one.
 #[tactic(auto, unfolding(crate::specs::Texts::float_text))]
-fn put_float(bytes: &mut Vec<u8>, number: f64) -> Result<(), AllocError>
-    ensures { OnOk result (bytes.new.items ≡ bytes.old.items ++ spec.float_text number) }
+fn put_float(text: &mut String, number: f64) -> Result<(), AllocError>
+    ensures { OnOk result (string_bytes text.new ≡ string_bytes text.old ++ spec.float_text number) }
 {
     if !number.is_finite() {
         return Ok(());
     }
-    let text = shortest_float::text_of(number);
-    put_with_a_point(bytes, text.as_bytes())
+    let digits = shortest_float::text_of(number);
+    put_with_a_point(text, digits.as_bytes())
 }
 
 /// The text of a number, with `.0` before an exponent that no point stands before.
-fn put_with_a_point(bytes: &mut Vec<u8>, text: &[u8]) -> Result<(), AllocError>
-    ensures { OnOk result (bytes.new.items ≡ bytes.old.items ++ spec.with_a_point text.now) }
+fn put_with_a_point(text: &mut String, number: &[u8]) -> Result<(), AllocError>
+    requires { IsAscii number.now }
+    ensures { OnOk result (string_bytes text.new ≡ string_bytes text.old ++ spec.with_a_point number.now) }
 {
-    let Some((first, rest)) = text.split_first() else {
+    let Some((first, rest)) = number.split_first() else {
         return Ok(());
     };
     if *first == b'.' {
-        bytes.extend_from_slice(text)?;
-        return Ok(());
+        return put_ascii(text, number);
     }
     if *first == b'e' {
-        bytes.extend_from_slice(b".0")?;
-        bytes.extend_from_slice(text)?;
-        return Ok(());
+        text.push_str(".0")?;
+        return put_ascii(text, number);
     }
-    bytes.push(*first)?;
-    put_with_a_point(bytes, rest)
+    put_ascii_byte(text, *first)?;
+    put_with_a_point(text, rest)
+}
+
+/// Letters of ASCII.
+fn put_ascii(text: &mut String, letters: &[u8]) -> Result<(), AllocError>
+    requires { IsAscii letters.now }
+    ensures { OnOk result (string_bytes text.new ≡ string_bytes text.old ++ letters.now) }
+{
+    for byte in letters {
+        put_ascii_byte(text, *byte)?;
+    }
+    Ok(())
+}
+
+/// A letter of ASCII.
+#[tactic(auto, using(crate::proofs::Escapes::one_byte))]
+fn put_ascii_byte(text: &mut String, byte: u8) -> Result<(), AllocError>
+    requires { byte < 128 }
+    ensures { OnOk result (string_bytes text.new ≡ string_bytes text.old ++ (byte ∷ [])) }
+{
+    text.push(char::from(byte))?;
+    Ok(())
 }
 
 /// Bytes in hex, behind `0x`.
-fn put_hex(alloc: Global, bytes: &mut Vec<u8>, written: &[u8]) -> Result<(), AllocError>
-    ensures { OnOk result (bytes.new.items ≡ bytes.old.items ++ spec.hex_text written.now) }
+fn put_hex(alloc: Global, text: &mut String, written: &[u8]) -> Result<(), AllocError>
+    ensures { OnOk result (string_bytes text.new ≡ string_bytes text.old ++ spec.hex_text written.now) }
 {
-    bytes.extend_from_slice(b"0x")?;
+    text.push_str("0x")?;
     let digits = hex::encode(alloc, written)?;
-    bytes.extend_from_slice(digits.as_bytes())?;
+    text.push_str(digits.as_str())?;
     Ok(())
 }
 
 /// A literal.
 pub(crate) fn put_literal(
     alloc: Global,
-    bytes: &mut Vec<u8>,
+    text: &mut String,
     literal: &Literal,
 ) -> Result<(), AllocError>
-    ensures { OnOk result (bytes.new.items ≡ bytes.old.items ++ spec.literal_text literal.now) }
+    ensures { OnOk result (string_bytes text.new ≡ string_bytes text.old ++ spec.literal_text literal.now) }
 {
     match literal {
         Literal::Nil => {
-            bytes.extend_from_slice(b"nil")?;
+            text.push_str("nil")?;
             Ok(())
         }
         Literal::Bool(true) => {
-            bytes.extend_from_slice(b"true")?;
+            text.push_str("true")?;
             Ok(())
         }
         Literal::Bool(false) => {
-            bytes.extend_from_slice(b"false")?;
+            text.push_str("false")?;
             Ok(())
         }
-        Literal::Int(number) => put_int(bytes, *number),
-        Literal::Float(number) => put_float(bytes, *number),
-        Literal::Text(text) => put_quoted(bytes, text.as_str().as_bytes()),
-        Literal::Bytes(written) => put_hex(alloc, bytes, written.as_slice()),
+        Literal::Int(number) => put_int(text, *number),
+        Literal::Float(number) => put_float(text, *number),
+        Literal::Text(said) => put_quoted(text, said.as_str()),
+        Literal::Bytes(written) => put_hex(alloc, text, written.as_slice()),
     }
 }
 
 /// A key.
-fn put_key(bytes: &mut Vec<u8>, key: &Key) -> Result<(), AllocError>
-    ensures { OnOk result (bytes.new.items ≡ bytes.old.items ++ spec.key_text key.now) }
+fn put_key(text: &mut String, key: &Key) -> Result<(), AllocError>
+    ensures { OnOk result (string_bytes text.new ≡ string_bytes text.old ++ spec.key_text key.now) }
 {
     match key {
-        Key::Text(text) => put_quoted(bytes, text.as_str().as_bytes()),
-        Key::Index(number) => put_int(bytes, *number),
+        Key::Text(said) => put_quoted(text, said.as_str()),
+        Key::Index(number) => put_int(text, *number),
     }
 }
 
 /// A key in brackets.
-fn put_bracketed(bytes: &mut Vec<u8>, key: &Key) -> Result<(), AllocError>
-    ensures { OnOk result (bytes.new.items ≡ bytes.old.items ++ spec.bracketed key.now) }
+fn put_bracketed(text: &mut String, key: &Key) -> Result<(), AllocError>
+    ensures { OnOk result (string_bytes text.new ≡ string_bytes text.old ++ spec.bracketed key.now) }
 {
-    bytes.push(b'[')?;
-    put_key(bytes, key)?;
-    bytes.push(b']')?;
+    text.push_str("[")?;
+    put_key(text, key)?;
+    text.push_str("]")?;
     Ok(())
 }
 
 /// Keys, each in brackets.
-fn put_keys(bytes: &mut Vec<u8>, keys: &[Key]) -> Result<(), AllocError>
-    ensures { OnOk result (bytes.new.items ≡ bytes.old.items ++ spec.keys_text keys.now) }
+fn put_keys(text: &mut String, keys: &[Key]) -> Result<(), AllocError>
+    ensures { OnOk result (string_bytes text.new ≡ string_bytes text.old ++ spec.keys_text keys.now) }
 {
     for key in keys {
-        put_bracketed(bytes, key)?;
+        put_bracketed(text, key)?;
     }
     Ok(())
 }
 
 /// The name of a path.
-fn put_root(bytes: &mut Vec<u8>, context: Context, root: Root) -> Result<(), AllocError>
-    ensures { OnOk result (bytes.new.items ≡ bytes.old.items ++ root_name context root) }
+fn put_root(text: &mut String, context: Context, root: Root) -> Result<(), AllocError>
+    ensures { OnOk result (string_bytes text.new ≡ string_bytes text.old ++ root_name context root) }
 {
     if context == Context::SpanEvent && !is_outside(root) {
-        bytes.extend_from_slice(b"span.")?;
+        text.push_str("span.")?;
     }
-    bytes.extend_from_slice(plain_name(root).as_bytes())?;
+    text.push_str(plain_name(root))?;
     Ok(())
 }
 
 /// A path.
-pub(crate) fn put_path(bytes: &mut Vec<u8>, context: Context, path: &Path) -> Result<(), AllocError>
-    ensures { OnOk result (bytes.new.items ≡ bytes.old.items ++ (root_name context path.now.root ++ spec.keys_text path.now.keys)) }
+pub(crate) fn put_path(text: &mut String, context: Context, path: &Path) -> Result<(), AllocError>
+    ensures { OnOk result (string_bytes text.new ≡ string_bytes text.old ++ (root_name context path.now.root ++ spec.keys_text path.now.keys)) }
 {
-    put_root(bytes, context, path.root)?;
-    put_keys(bytes, path.keys.as_slice())
+    put_root(text, context, path.root)?;
+    put_keys(text, path.keys.as_slice())
 }

@@ -1,6 +1,6 @@
 -- Worked rows of conditions by their texts, by computation.
 -- No contract rests on it: it shows the definitions on worked cases.
-use Rattle.std.specs.Prelude.{◌≡◌, ℕ, pos, negsuc, false, List, [], ◌∷◌, map, codes, Ok, Err, refl, ⊤}
+use Rattle.std.specs.Prelude.{◌≡◌, ℕ, zero, suc, pos, negsuc, false, List, [], ◌∷◌, map, codes, Ok, Err, refl, ⊤}
 use Rattle.std.specs.Str.{is_utf8, chars}
 use lib.Utf8.{encode}
 use Rattle.ottl_text.proofs.Rows.{pieces_on_literals}
@@ -122,3 +122,17 @@ pub of_no_made_texts : map (condition_of contexts.Span) (codes "ConvertCase(name
     refused_as faults.NoCase 19 ∷ refused_as faults.NoCase 19 ∷ refused_as faults.NoOpeningBracket 8 ∷ refused_as faults.NoClosingBracket 14 ∷ refused_as faults.NoValueHere 15 ∷ refused_as faults.NoComma 14 ∷ refused_as faults.NoDelimiter 16 ∷ refused_as faults.NoClosingBracket 14 ∷ []
 unfolding conditions_on_literals
 of_no_made_texts = refl
+
+-- a tree that is one level deeper than it has `not`s
+abbrev nots : ℕ → Term
+nots zero = is_root_span
+nots (suc n) = unary one.Not (nots n)
+
+-- a tree of an operator as deep as one may be, and one level deeper, on either side
+pub of_deep : map (λ n. joined 10 two.And (nots n) is_root_span (codes " and true")) (398 ∷ 399 ∷ []) ≡ Ok (binary two.And (nots 398) is_root_span) ∷ refused_as faults.TooDeep 2 ∷ []
+unfolding conditions_on_literals
+of_deep = refl
+
+pub of_deep_behind : map (λ n. joined 10 two.Or is_root_span (nots n) (codes " or false")) (398 ∷ 399 ∷ []) ≡ Ok (binary two.Or is_root_span (nots 398)) ∷ refused_as faults.TooDeep 2 ∷ []
+unfolding conditions_on_literals
+of_deep_behind = refl

@@ -1,4 +1,5 @@
 mod Texts
+mod Within
 mod Numbers
 pub mod Rows
 pub mod GrammarRows

@@ -30,12 +30,16 @@ use Rattle.ottl_lengths.specs.Lengths.{skip_blank}
 use Rattle.ottl_text.specs.Tokens.{Piece, end, bytes, float, int, text, word, sign, next_piece}
 use Rattle.ottl_text.specs.Literals.{int_of, float_of, bytes_of, text_of}
 use Rattle.ottl_text.specs.Names.{enumeration_of, unary_of, binary_of, case_named, root_of, takes_keys, operator_of, precedence}
-use Rattle.ottl_text.specs.Syntax.{Term, literal, path, is_root_span, unary, binary, is_match, substring, cased, concat, is_condition, is_value, suits}
+use Rattle.ottl_text.specs.Syntax.{Term, literal, path, is_root_span, unary, binary, is_match, substring, cased, concat, is_condition, is_value, suits, depth}
 use Rattle.ottl_text.specs.Gives.{Read, ◌>>=◌}
 
--- so many levels may nest, or operators stand in a row
+-- the most levels that may nest, and the most operators in a row
 abbrev pub most_levels : ℕ
 most_levels = 200
+
+-- so deep is a tree of operands and the operator between them at most
+abbrev pub most_deep : ℕ
+most_deep = 400
 
 abbrev pub is_end : Piece → Bool
 is_end end = true
@@ -82,7 +86,9 @@ module _ (behind : ℕ) where
 
   -- two terms joined, of which the operator is the piece that the bytes begin with
   unfoldable pub joined : Binary → Term → Term → List ℕ → Read Term
-  joined b x y s = if suits b x && suits b y then Ok (binary b x y) else Err (fault_at (misplaced b) s)
+  joined b x y s =
+      if suits b x && suits b y then (if nat_le (depth (binary b x y)) most_deep then Ok (binary b x y) else Err (fault_at faults.TooDeep s))
+      else Err (fault_at (misplaced b) s)
 
   -- what literals write, with which the bytes `s` begin
   unfoldable pub text_at : (written s : List ℕ) → Read (List ℕ)

@@ -1,5 +1,5 @@
 -- Conditions as trees (OTTL, `LANGUAGE.md`). The parts that hold no tree are the program's own.
-use Rattle.std.specs.Prelude.{ℕ, List, Bool, true, false, not}
+use Rattle.std.specs.Prelude.{ℕ, ◌+◌, max, List, Bool, true, false, not}
 use Rattle.ottl_text.specs.declared.expression.Literal.{Literal}
 use Rattle.ottl_text.specs.declared.expression.Path.{Path}
 use Rattle.ottl_text.specs.declared.expression.Unary.{Unary}
@@ -35,6 +35,18 @@ term_of (declared_as.IsMatch' p e pattern) = is_match (term_of e) pattern
 term_of (declared_as.Substring' p x q y r z) = substring (term_of x) (term_of y) (term_of z)
 term_of (declared_as.Cased' c p e) = cased c (term_of e)
 term_of (declared_as.Concat' p x delimiter q y) = concat (term_of x) delimiter (term_of y)
+
+-- so many trees lie one in another
+abbrev pub depth : Term → ℕ
+depth (literal l) = 1
+depth (path p) = 1
+depth is_root_span = 1
+depth (unary u t) = depth t + 1
+depth (binary b x y) = max (depth x) (depth y) + 1
+depth (is_match t pattern) = depth t + 1
+depth (substring x y z) = max (depth x) (max (depth y) (depth z)) + 1
+depth (cased c t) = depth t + 1
+depth (concat x delimiter y) = max (depth x) (depth y) + 1
 
 abbrev pub is_truth : Literal → Bool
 is_truth (literals.Bool b) = true

@@ -146,7 +146,7 @@ pub enum Expression {
     Binary(Binary, Box<Expression>, Box<Expression>),
     /// `IsMatch(.., "..")`: the regular expression by its text.
     IsMatch(Box<Expression>, Text),
-    /// `Substring(.., .., ..)`: of a text so many bytes from a place on.
+    /// `Substring(.., .., ..)`: a text, a place in it, and the number of bytes from there on.
     Substring(Box<Expression>, Box<Expression>, Box<Expression>),
     /// `ConvertCase(.., "lower")`.
     Cased(Case, Box<Expression>),

@@ -51,7 +51,8 @@ pub enum FaultKind {
     NotACondition,
     /// Here something else than a number stands where one would have to.
     NotANumber,
-    /// It nests too deep, or has too many operators, or values of `Concat`, in a row: more than 200.
+    /// It nests too deep, or has too many operators, or values of `Concat`, in a row: more than 200. Or here the tree of
+    /// an operator gets more than 400 deep.
     TooDeep,
 }
 
@@ -99,7 +100,7 @@ impl fmt::Display for FaultKind {
             ),
             FaultKind::NotANumber => f.write_str("a number is wanted"),
             FaultKind::TooDeep => f.write_str(
-                "it nests more than 200 levels deep, or has more than 200 operators or values in a row",
+                "it nests more than 200 levels deep, has more than 200 operators or values in a row, or more than 400 of both within one another",
             ),
         }
     }

@@ -10,6 +10,7 @@
 //! ```
 #![tactic(auto)]
 
+mod depths;
 mod expression;
 mod fault;
 mod kind_error;

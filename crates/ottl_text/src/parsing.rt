@@ -9,7 +9,7 @@ use crate::pieces::{is_end, next_at, refused};
 use crate::reading::expression;
 use std::alloc::Global;
 
-/// So many levels may nest, or operators stand in a row.
+/// The most levels that may nest, and the most operators in a row (D-310).
 const MOST_LEVELS: usize = 200;
 
 /// The condition on a span, or on an event of a span, that a text is, or its first fault, from left to right. `NoMemory`
@@ -18,6 +18,7 @@ const MOST_LEVELS: usize = 200;
 pub fn parse(alloc: Global, context: Context, text: &[u8]) -> Result<Expression, ParseError>
     ensures { GivesAs term_of result (condition_of context text.now) }
 {
+    // A fault's column is counted from here back, by what is left of the text.
     let behind = text.len() + 1;
     let (condition, rest) = expression(alloc, behind, context, MOST_LEVELS, 1, text)?;
     let (token, _) = next_at(behind, rest)?;

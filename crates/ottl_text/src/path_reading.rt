@@ -9,7 +9,7 @@ use crate::pieces::{after_sign, is_the_sign, key_at, next_at, refused};
 use otlp_types::List;
 use std::alloc::Global;
 
-/// The keys behind a path, behind those that were read, at most so many.
+/// The keys behind a path, behind those that were read: at most `levels` more.
 #[tactic(auto, unfolding(crate::specs::Grammar::keyed))]
 fn keyed(
     alloc: Global,

@@ -236,6 +236,7 @@ pub(crate) fn no_values_at(
 ) -> Result<(Expression, &[u8]), ParseError>
     ensures { GivesAs (λ found. (term_of found.0, found.1.now)) result (spec.no_values_at behind bytes.now) }
 {
+    // It is read as if the empty text stood there (D-355).
     let (_, rest) = delimiter_at(alloc, behind, bytes)?;
     Ok((Expression::Literal(Literal::Text(Text::new(alloc))), rest))
 }

@@ -6,6 +6,7 @@ ghost use Rattle.ottl_text.specs.Syntax.{term_of};
 ghost use Rattle.ottl_text.specs.Syntax as syntax;
 ghost use Rattle.ottl_text.specs.Tokens.{piece_of};
 
+use crate::depths::both_within;
 use crate::expression::{Binary, Context, Expression, Literal, Unary};
 use crate::fault::{FaultKind, ParseError};
 use crate::names::{binary_of, enumeration_of, operator_of, root_of, unary_of};
@@ -18,6 +19,9 @@ use crate::token::Token;
 use crate::trees::{before, both, in_case, one, part};
 use otlp_types::Text;
 use std::alloc::Global;
+
+/// So deep is a tree of operands and the operator between them at most, so that asking it takes little stack.
+const MOST_DEEP: usize = 400;
 
 /// `IsRootSpan`, behind its name.
 #[tactic(auto, unfolding(crate::specs::Grammar::root_span_at))]
@@ -41,10 +45,13 @@ fn joined(
 ) -> Result<Expression, ParseError>
     ensures { GivesAs term_of result (spec.joined behind binary (term_of left) (term_of right) bytes.now) }
 {
-    if binary.suits(&left) && binary.suits(&right) {
+    if !binary.suits(&left) || !binary.suits(&right) {
+        return Err(refused(behind, binary.misplaced(), bytes));
+    }
+    if both_within(MOST_DEEP, &left, &right) {
         both(alloc, binary, left, right)
     } else {
-        Err(refused(behind, binary.misplaced(), bytes))
+        Err(refused(behind, FaultKind::TooDeep, bytes))
     }
 }
 
@@ -97,7 +104,7 @@ fn operators(
     }
 }
 
-/// An operand, whose parts nest at most so many levels, and what is left.
+/// An operand, whose parts nest at most `levels` deep, and what is left.
 #[cycle(expression)]
 #[tactic(auto, unfolding(crate::specs::Grammar::operand))]
 fn operand(
@@ -200,6 +207,7 @@ fn named_at<'a>(
     if let Some(binary) = binary_of(word) {
         return binary_at(alloc, behind, context, levels, binary, rest);
     }
+    // A number like any other, so it stands in sums and products, too (D-342).
     if let Some(number) = enumeration_of(word) {
         return Ok((Expression::Literal(Literal::Int(number)), rest));
     }
@@ -221,6 +229,7 @@ fn not_at(
 ) -> Result<(Expression, &[u8]), ParseError>
     ensures { GivesAs (λ found. (term_of found.0, found.1.now)) result (spec.not_at behind (spec.expression behind context levels) bytes.now) }
 {
+    // Comparisons bind tighter than `not`, and another `not` may stand behind it (D-292).
     let (of, rest) = expression(alloc, behind, context, levels, 3, bytes)?;
     if !of.is_condition() {
         return Err(refused(behind, FaultKind::NotACondition, bytes));

@@ -43,6 +43,7 @@ pub(crate) fn next(text: &[u8]) -> Result<(Token<'_>, &[u8]), FaultKind>
             behind(text, digits),
         ));
     }
+    // Before whole numbers, since a float begins with digits, too.
     let digits = float_len(text);
     if 0 < digits {
         return Ok((Token::Float(front(text, digits)), behind(text, digits)));

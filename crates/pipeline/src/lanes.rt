@@ -50,6 +50,7 @@ pub fn lane_jobs<'s, Server: Drop, QueueRoom: Room, Observer: Gate, Mark, Time, 
             jobs.reverse();
             return Err(acceptors_of(jobs, acceptors));
         };
+        // From the end, so that none is moved: its number is how many are left.
         let acceptor = acceptors.take_last();
         let number = acceptors.len() as u16;
         jobs.push_reserved(lane_job(
@@ -124,7 +125,7 @@ struct LaneLists<'s, C: Room, R: Wait> {
     room: Vec<Sender<Item, C>>,
 }
 
-/// Room for so many ports, and for their ends.
+/// Room for `count` ports, and for their ends.
 fn lane_lists<'s, C: Room, R: Wait>(
     alloc: Global,
     count: usize,
@@ -155,5 +156,6 @@ fn lane_of<'s, C: Room, R: Wait>(
     for sender in senders {
         ports.push_reserved(SenderPort::new(rt, sender, asks_again, brake));
     }
+    // With a brake, too, it looks before a request's spans get numbers (D-173).
     Lane::new(number, ports).asking_again(asks_again || brake.is_some())
 }

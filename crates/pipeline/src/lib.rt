@@ -1,8 +1,9 @@
 //! A running collector: a thread for each lane, each shard and the ticker, and the exporter on the caller's.
 //!
-//! [`run`] (over acceptors, one connection after the other) and [`run_by_turns`] (many at once) make all that the
-//! threads need, run them as one team of jobs, gather what they leave, and join their queues and seats again: what they
-//! did is a run of the core (`specs/Promise`).
+//! [`run_by_turns_to`] has lanes that serve many connections at once, and batches that go to any destination: so the
+//! program runs. [`run_by_turns`] prints lines to a sink, and [`run`] is over acceptors, one connection after another:
+//! so tests do. Each makes all that the threads need, runs them as one team of jobs, gathers what they leave, and joins
+//! their queues and seats again: what they did is a run of the core (`specs/Promise`).
 //!
 //! ```
 //! let context = RunContext { rt: &rt, alloc, gate: &board, stop: &mark, clock: &clock };

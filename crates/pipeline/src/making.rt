@@ -105,6 +105,7 @@ pub fn make<
     ensures acceptors_room { IfOk result (λ made. (made.acceptors.items ≡ []) × (config.now.lanes ≤ vec_capacity made.acceptors)) }
     ensures back { IfErr result (λ back. (back.0.items ≡ acceptors.items) × (back.1 ≡ ticks)) }
 {
+    // All memory is taken before a thread starts: where it is refused, nothing was asked of an acceptor (D-158).
     let Ok(made) = run_ends::<QueueRoom, ExportRoom, Runtime>(lent.rt, lent.alloc, config) else {
         return Err((acceptors, ticks));
     };
@@ -176,8 +177,10 @@ fn team_of<
     ensures acceptors_room { IfOk result (λ made. (made.1.items ≡ []) × (config.now.lanes ≤ vec_capacity made.1)) }
     ensures back { IfErr result (λ back. (back.0.items ≡ acceptors.items) × (back.1 ≡ ticks)) }
 {
+    // A law, called for its clause: each seat may be lent to a shard's decisions (D-059).
     new_seats_have_nodes();
     let mut columns = columns;
+    // The last column is the ticker's, whose number is that of the lanes (D-094).
     let senders = columns.take_last();
     let Ok(third) = shard_jobs(lent, config, ends) else {
         return Err((acceptors, ticks));
@@ -253,7 +256,7 @@ fn run_ends<'s, C: Room, D: Room, R: Wait>(
     })
 }
 
-/// Room for what so many lanes, the ticker, so many shards and the exporter leave.
+/// Room for what the lanes, the ticker, the shards and the exporter leave.
 fn rooms_for<'s, C: Room, D: Room, R: Wait>(
     alloc: Global,
     lanes: usize,
@@ -268,6 +271,7 @@ fn rooms_for<'s, C: Room, D: Room, R: Wait>(
     ensures counts { IfOk result (λ rooms. (rooms.counts.items ≡ []) × (lanes + shards + 1 ≤ vec_capacity rooms.counts)) }
     ensures rows { IfOk result (λ rooms. rooms.rows ≡ rows) }
 {
+    // For what the threads leave, too: nothing can be refused after a run (D-158).
     let columns = Vec::with_capacity(alloc, lanes + 1)?;
     let counts = Vec::with_capacity(alloc, lanes + shards + 1)?;
     let ends = ends_room(alloc, shards)?;
@@ -279,7 +283,7 @@ fn rooms_for<'s, C: Room, D: Room, R: Wait>(
     })
 }
 
-/// Room for the seats and ends of so many shards.
+/// Room for the seats and ends of the shards.
 fn ends_room<'s, C: Room, D: Room, R: Wait>(
     alloc: Global,
     shards: usize,

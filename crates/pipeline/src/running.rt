@@ -70,6 +70,7 @@ where
     ensures back { IfSome result.2 (λ back. (back.0.items ≡ servers.items) × (back.1 ≡ ticks)) }
 {
     let lines = LineSink::new(sink);
+    // Only tests run acceptors: the program's lanes serve by turns (D-155).
     let (lines, answer, back) = run_servers(context, config, servers, ticks, lines);
     (lines.end(), answer, back)
 }
@@ -232,6 +233,7 @@ fn run_in<
     ensures begun { is_none result.2 ≡ has_begun result.1 }
     ensures back { IfSome result.2 (λ back. (back.0.items ≡ servers.items) × (back.1 ≡ ticks)) }
 {
+    // Before a thread is started. Without random bytes it can't begin, as without memory (D-086).
     let Ok(hashing) = TraceHashing::keyed(context.rt) else {
         return (exporter, Err(ServeFault::NoMemory), Some((servers, ticks)));
     };
@@ -272,6 +274,7 @@ fn answer_of(counted: &ThreadCounts, is_down: bool) -> Result<Report, ServeFault
     ensures counts { TellsCounts counted.now.is_full counted.now.counts.items result }
     ensures begun { has_begun result ≡ true }
 {
+    // What was counted no longer adds up, so this goes before a write that failed.
     if counted.is_full {
         return Err(ServeFault::CounterOverflow);
     }
@@ -341,6 +344,7 @@ fn run_over<
     };
     match run_team(lent.rt, lent.alloc, team, job) {
         Ok((left, last)) => {
+            // Laws, called for their clauses: the run's own promise is made of them.
             sink_takes_lines();
             takes_handed_lines();
             asked_seats_may_be_compared();
@@ -355,9 +359,11 @@ fn run_over<
                 is_full: false,
             };
             gather_lanes(left.first, &mut columns, &mut counted);
+            // The ticker's ends stand behind the lanes', as they were made.
             columns.push_reserved(left.second);
             gather_shards(left.third, &mut ends, &mut counted);
             counted.add(last.counts, last.is_full);
+            // What went through a queue is known once both of its ends are here again (D-144).
             join_all(columns, ends, last.receiver, rows);
             Ok((last.exporter, counted))
         }

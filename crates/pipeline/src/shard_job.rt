@@ -7,7 +7,7 @@ use job_threads::Job;
 use lane_queue::{Gate, Receiver, Room, Sender};
 use otlp_types::{Item, Shipment};
 use shard_core::Shard;
-use shard_worker::Turns;
+use shard_worker::{ShardDesk, Turns};
 use shared_budget::BudgetSeat;
 use std::sync::Wait;
 use std::time::Clock;
@@ -67,8 +67,10 @@ impl<'s, QueueRoom: Room, ExportRoom: Room, Observer: Gate, Runtime: Wait + Cloc
             number,
             shard,
             limiter: seat,
-            sender,
-            tally: Tally::new(Told::new(gate)),
+            desk: ShardDesk {
+                sender,
+                tally: Tally::new(Told::new(gate)),
+            },
         };
         let end = shard_worker::work(rt, turns, receiver, gate);
         let is_full = end.tally.is_full();

@@ -34,6 +34,7 @@ impl<'g, G: Gate> Counter for Told<'g, G> {
     ghost counted = { λ t. t.report };
 
     fn add(&mut self, count: Count, n: u64) -> Result<(), CounterOverflow> {
+        // First to the thread's own report, and only then to what is shown: no count rests on the gate (D-195).
         self.report.add(count, n)?;
         self.gate.counted(count.place(), n);
         Ok(())

@@ -48,6 +48,7 @@ impl Answer {
     pub fn joined(join: Join, seen: AnswersSeen) -> Answer
         ensures { result ≡ answer_of (joined_seen join seen) }
     {
+        // A `Drop` that drops nothing keeps nothing either (D-034). A `Share` drops where its limiter refuses (D-036).
         match join {
             Join::And => Answer::plain(seen.each_is_for()),
             Join::Not => Answer::plain(!seen.each_is_for()),
@@ -64,6 +65,7 @@ impl Answer {
     pub fn ends(self, join: Join) -> bool
         ensures { result ≡ is_end join self }
     {
+        // An inverted sample doesn't end a first match, as in the processor (D-035).
         match join {
             Join::FirstMatch => matches!(self, Answer::Sample | Answer::Dropped),
             _ => !self.samples(),

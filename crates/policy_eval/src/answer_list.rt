@@ -28,6 +28,7 @@ pub fn judge(
     ensures same { searches.new ≡ searches.old }
 {
     let (verdict, asked) = verdict_and_askings(policies, spans, answers, searches);
+    // With another number of answers there is no such decision (D-055).
     if asked == answers.len() {
         Some(verdict)
     } else {
@@ -72,7 +73,7 @@ fn verdict_and_askings(
     (seen.verdict(), asked)
 }
 
-/// The answer of the policy, where so many of the answers were given before, and how many there are with its own.
+/// The answer of the policy, where `asked` of the answers were given before, and how many there are with its own.
 fn answer_given(
     policy: &Policy,
     spans: &[Arrival],

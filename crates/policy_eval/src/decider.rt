@@ -31,6 +31,7 @@ impl Firsts {
         ensures { result ≡ first_with answer place self }
     {
         let mut firsts = self;
+        // A not-sample that is one of many is no policy's doing, so its place isn't kept (D-040).
         match answer {
             Answer::Sample => firsts.sample = self.sample.or(Some(place)),
             Answer::NotSample => {}

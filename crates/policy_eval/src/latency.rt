@@ -9,6 +9,7 @@ pub fn is_slow(threshold: u64, upper: u64, spans: &[Arrival]) -> bool
     ensures { result ≡ is_slow threshold upper (duration_ms spans.now) }
 {
     let duration = latest_end(spans).saturating_sub(earliest_start(spans)) / 1_000_000;
+    // As in the processor: where there is an upper bound, the lower one itself is too fast.
     if upper == 0 {
         threshold <= duration
     } else {

@@ -7,11 +7,11 @@ use otlp_types::Arrival;
 /// The hash of no bytes.
 const OFFSET_BASIS: u64 = 14_695_981_039_346_656_037;
 
-/// By which the hash is multiplied at each byte.
+/// What the hash is multiplied by at each byte.
 const PRIME: u64 = 1_099_511_628_211;
 
-/// Whether the trace of the spans is among so many ten-thousandths of a percent of all traces, by the FNV-1a hash of
-/// the salt and the trace's id.
+/// Whether the trace of the spans is among `ten_thousandths` of a percent of all traces, by the FNV-1a hash of the
+/// salt and the trace's id.
 #[tactic(auto, unfolding(crate::specs::Probabilistic::is_chosen))]
 pub fn is_chosen(salt: &str, ten_thousandths: u32, spans: &[Arrival]) -> bool
     ensures { result ≡ is_chosen salt.now ten_thousandths (trace_of spans.now) }
@@ -19,10 +19,11 @@ pub fn is_chosen(salt: &str, ten_thousandths: u32, spans: &[Arrival]) -> bool
     hash_of(salt, spans) <= threshold(ten_thousandths)
 }
 
-/// The greatest hash that is sampled where so many ten-thousandths of a percent are.
+/// The greatest hash that is sampled where `ten_thousandths` of a percent are.
 fn threshold(ten_thousandths: u32) -> u128
     ensures { result ≡ threshold ten_thousandths }
 {
+    // Rounded down, in whole numbers; at 0 a hash of 0 still is within it (D-041).
     u128::from(ten_thousandths) * u128::from(u64::MAX) / 1_000_000
 }
 
@@ -31,6 +32,7 @@ fn hash_of(salt: &str, spans: &[Arrival]) -> u128
     ensures { result ≡ fnv_1a (salt.now ++ trace_of spans.now) }
 {
     let salted = hash_on(OFFSET_BASIS, salt.as_bytes());
+    // All spans of an episode have one trace id (D-044).
     let hash = match spans.first().and_then(|first| first.rec.span.get().ids) {
         Some(ids) => hash_on(salted, &ids.trace.bytes()),
         None => salted,

@@ -77,6 +77,7 @@ impl Searches {
         ensures same { self.new ≡ self.old }
     {
         let (on_span, on_event) = (on_span.as_slice(), on_event.as_slice());
+        // Under `propagate` an error makes the policy answer *not sample* (D-349).
         match ottl_lists::trace_meets(&mut self.conditions, mode, on_span, on_event, spans) {
             Ok(holds) => holds,
             Err(_) => false,

@@ -13,6 +13,7 @@ pub fn searches_for(alloc: Global, policies: &Policies) -> Result<Searches, Allo
     ensures { IfOk result (λ searches. are_known searches (expressions_in (meaning policies.now)) ≡ true) }
 {
     let expressions = policies.expressions(alloc)?;
+    // Once for a shard: policies hold texts and nothing compiled, so that they can be compared (D-048).
     let mut searches = Searches::new(alloc);
     for expression in expressions.as_slice() {
         searches.add(alloc, expression)?;

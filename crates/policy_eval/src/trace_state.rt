@@ -8,6 +8,7 @@ use otlp_types::Text;
 pub fn has_member(key: &str, values: &[Text], trace_state: &str) -> bool
     ensures { result ≡ spec.has_member key.now values.now trace_state.now }
 {
+    // A member counts wherever it stands, also in a list that the W3C doesn't allow (D-050).
     let mut rest = trace_state.as_bytes();
     'members: loop {
         match comma_at(rest) {

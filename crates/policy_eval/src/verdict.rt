@@ -105,6 +105,7 @@ fn answer<L: Limiter>(
                 if given.ends(*join) {
                     return Answer::joined(*join, seen);
                 }
+                // Counted on over what isn't asked, too: a node's number is its place in the tree.
                 next += part.count() as u16;
             }
             Answer::joined(*join, seen)
@@ -118,6 +119,7 @@ fn amount_of(limit: Limit, spans: &[Arrival]) -> u64
     ensures amount { result ≡ amount_of limit spans.now }
     ensures some { 0 < result }
 {
+    // Bytes are those of the spans' canonical texts, as for a trace's maximum (D-062).
     match limit {
         Limit::Spans { .. } => spans.len() as u64,
         Limit::Bytes { .. } => size_of(spans),

@@ -54,6 +54,7 @@ impl Policies {
         ensures policies { IfOk result (λ policies. policies ≡ list.items) }
         ensures fault { result_err result ≡ fault_of_policies list.items }
     {
+        // It takes no memory; the allocator stays in its signature (D-045).
         match fault_of(&list) {
             Some(fault) => Err(fault),
             None => Ok(Policies { list }),
@@ -103,6 +104,7 @@ impl TryClone for Policies {
 fn fault_of(list: &[Policy]) -> Option<PolicyFault>
     ensures { result ≡ fault_of_policies list.now }
 {
+    // The shape first: so names are compared only within 64 policies and 8 levels (D-045).
     if has_empty_list(list) {
         Some(PolicyFault::EmptyList)
     } else if depth_in(list) > MOST_LEVELS {

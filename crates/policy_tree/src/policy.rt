@@ -71,8 +71,8 @@ pub enum Leaf {
         min_spans: u64,
         max_spans: u64,
     },
-    /// A trace whose id has, behind the salt, a hash among the lowest: so many ten-thousandths of a percent of all
-    /// hashes, from 0 to 1000000 (`probabilistic`: `hash_salt`, `sampling_percentage`).
+    /// A trace whose id has, behind the salt, a hash among the lowest: this number of ten-thousandths of a percent of
+    /// all hashes, from 0 to 1000000 (`probabilistic`: `hash_salt`, `sampling_percentage`).
     Probabilistic {
         hash_salt: Text,
         ten_thousandths: u32,

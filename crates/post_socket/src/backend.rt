@@ -15,10 +15,10 @@ use std::random::RandomSource;
 use std::time::{Clock, Duration, Instant};
 use std::{io, thread};
 
-/// So long a wait lasts at least before it is looked whether the collector closes, in milliseconds.
+/// The longest sleep in a wait, between two looks whether the collector closes, in milliseconds.
 const SLICE: u64 = 50;
 
-/// Where a backend is, and how long is waited for it, in milliseconds.
+/// Where a backend is, and the longest waits for it, in milliseconds.
 #[derive(Clone, Copy)]
 pub struct BackendSettings<'t> {
     /// Its host and port.
@@ -124,6 +124,7 @@ impl<'t, V: Watch, R: Net<Stream = TcpStream> + Clock + RandomSource> SocketBack
         let Some(answer) = answer else {
             return AttemptOutcome::NoAnswer;
         };
+        // No other status is a delivery, so of none is it asked which spans were rejected (D-209).
         if answer.status == 200 {
             let rejected = rejected_in(self.alloc, encoding, &answer.body);
             self.watch.rejected(rejected);
@@ -137,6 +138,7 @@ impl<'t, V: Watch, R: Net<Stream = TcpStream> + Clock + RandomSource> SocketBack
     /// The fields and the body of a batch in protobuf, where it is to go so and can.
     fn in_protobuf(&self, batch: &[u8]) -> Option<(&'t [Header<'t>], Vec<u8>)> {
         let fields = self.settings.protobuf?;
+        // What can't be written as protobuf goes as JSON (D-117).
         let body = protobuf_body(self.alloc, batch).ok()?;
         Some((fields, body))
     }
@@ -172,7 +174,7 @@ impl<'t, V: Watch, R: Net<Stream = TcpStream> + Clock + RandomSource> SocketBack
     }
 }
 
-/// A connection to the first address of a host that takes one, within so many milliseconds for all of them.
+/// A connection to the first address of a host that takes one, within `limit` milliseconds for all of them.
 fn connect<R: Net<Stream = TcpStream> + Clock>(
     rt: &R,
     authority: &str,
@@ -181,6 +183,7 @@ fn connect<R: Net<Stream = TcpStream> + Clock>(
     let began = Instant::now(rt).ok();
     let mut last = io::Error::from(ErrorKind::AddrNotAvailable);
     for at in authority.to_socket_addrs(rt)? {
+        // At least 1, since a time-out of 0 is refused.
         let left = limit.saturating_sub(elapsed(rt, &began)).max(1);
         match TcpStream::connect_timeout(rt, &at, Duration::from_millis(left)) {
             Ok(stream) => {
@@ -199,6 +202,7 @@ fn is_quiet(stream: &TcpStream) -> bool {
     if stream.set_nonblocking(true).is_err() {
         return false;
     }
+    // What came unasked, an end too, would be read as the next answer (D-208).
     let peeked = stream.peek(&mut byte);
     let is_quiet = matches!(peeked, Err(error) if error.kind() == ErrorKind::WouldBlock);
     is_quiet && stream.set_nonblocking(false).is_ok()
@@ -224,6 +228,7 @@ impl<'t, V: Watch, R: Net<Stream = TcpStream> + Clock + RandomSource> Backend
 
     fn wait(&mut self, milliseconds: u64) {
         let began = elapsed(self.rt, &self.began);
+        // In slices, so that a close is seen meanwhile. Their number ends the wait where the clock stands still.
         for _ in 0..=milliseconds / SLICE {
             let waited = elapsed(self.rt, &self.began).saturating_sub(began);
             if milliseconds <= waited {

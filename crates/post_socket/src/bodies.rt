@@ -26,6 +26,7 @@ pub fn protobuf_body(alloc: Global, line: &[u8]) -> Result<Vec<u8>, NoBody>
     ensures no_request { IsErrOf result NoBody.NoRequest → IsNoJson line.now ⊎ IsNoRequest true line.now }
     ensures no_bytes { IsErrOf result NoBody.NoBytes → (request : Request) × IsRequest true line.now request × IsSome (request_fault request) }
 {
+    // The line is what is counted and printed, so it is written from that; doubles to discard are gone already (D-117).
     let request = match otlp_json::decode(alloc, true, line) {
         Ok(request) => request,
         Err(DecodeError::NoMemory) => return Err(NoBody::NoMemory),

@@ -56,7 +56,7 @@ fn response_with(before: u64, field: WireField<'_>) -> Result<u64, WireFault>
     }
 }
 
-/// Those of a partial success that begins with so many.
+/// Those of a partial success that begins with this number.
 fn partial_success(before: u64, bytes: &[u8]) -> Result<u64, WireFault>
     ensures { spec.Reads result (merged spec.spans_step before bytes.now) }
 {

@@ -9,9 +9,9 @@ pub trait Watch {
     /// An attempt to send a batch ended so.
     fn attempted(&self, outcome: AttemptOutcome);
 
-    /// A batch of so many bytes was delivered or given up.
+    /// A batch of this number of bytes was delivered or given up.
     fn settled(&self, bytes: u64, fate: BatchFate);
 
-    /// The backend took a batch but for so many of its spans (OTLP 1.x, "Partial Success").
+    /// The backend took a batch but for this number of its spans (OTLP 1.x, "Partial Success").
     fn rejected(&self, spans: u64);
 }

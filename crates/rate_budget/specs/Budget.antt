@@ -24,7 +24,7 @@ limiter_counts policies askings = map (limiter_count askings) (limiters policies
 
 -- ---- what an asking does to them
 
--- what is still spent so many seconds later: of spans nothing, of bytes what the bucket didn't get back
+-- what is still spent `seconds` later: of spans nothing, of bytes what the bucket didn't get back
 abbrev pub still_spent : Limit → (seconds amount : ℕ) → ℕ
 still_spent (Spans per_second) seconds amount = if seconds == 0 then amount else 0
 still_spent (Bytes per_second burst) seconds amount = amount - per_second * seconds
@@ -69,7 +69,7 @@ StandsAfter policies askings node second n answer new =
 abbrev pub AsksBudgets : (old : List LimiterCount) → (node second n : ℕ) → (answer : Bool) → (new : List LimiterCount) → Type 0
 AsksBudgets old node second n answer new = (answer ≡ grants_at old node second n) × (new ≡ after old node second n)
 
--- a bucket that is never overdrawn is full at the most, and gets so many back with each second
+-- a bucket that is never overdrawn is full at the most, and gets `per_second` back with each second
 abbrev pub BucketFills : Type 0
 BucketFills = (per_second burst second seconds : ℕ) (askings : List Asking) → missing_in per_second second askings ≤ burst → latest_second askings ≤ second →
     burst - missing_in per_second (second + seconds) askings ≡ min burst ((burst - missing_in per_second second askings) + per_second * seconds)

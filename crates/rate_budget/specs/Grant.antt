@@ -28,8 +28,8 @@ granted_in second (a ∷ earlier) = (if a.granted && (latest_second (a ∷ earli
 abbrev pub taken : Asking → ℕ
 taken a = if a.granted then a.amount else 0
 
--- what is missing in this second in a bucket that was full at first, lost what was granted, and got so many back with
--- each second
+-- what is missing in this second in a bucket that was full at first, lost what was granted, and got `per_second` back
+-- with each second
 abbrev pub missing_in : (per_second second : ℕ) → List Asking → ℕ
 missing_in per_second second [] = 0
 missing_in per_second second (a ∷ earlier) =

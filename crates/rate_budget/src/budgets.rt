@@ -65,6 +65,7 @@ fn ask_in(counts: &mut [LimiterCount], node: u16, second: u64, n: u64) -> bool
     ensures after { counts.new ≡ after_by counts.old node second n }
 {
     let mut i = 0;
+    // There are 64 policies at most, so they are walked over.
     while i < counts.len() {
         if counts[i].node == node {
             return counts[i].ask(second, n);
@@ -81,7 +82,7 @@ impl Limiter for Budgets {
 
     ghost asks = { AsksBudgets };
 
-    /// Whether so many spans or bytes in this second are granted to the node. It takes no memory.
+    /// Whether this amount of spans or bytes is granted to the node in this second. It takes no memory.
     fn ask(&mut self, node: u16, second: u64, amount: u64) -> bool
         requires node { has_node_in self.old node ≡ true }
         requires amount { 0 < amount }

@@ -16,12 +16,13 @@ pub struct LimiterCount {
 }
 
 impl LimiterCount {
-    /// Whether so many spans or bytes, as the limit has it, are granted in this second. A second before the greatest
+    /// Whether `n` spans or bytes, as the limit has it, are granted in this second. A second before the greatest
     /// one counts as the greatest.
     pub fn ask(&mut self, second: u64, n: u64) -> bool
         ensures answer { result ≡ grants_of second n self.old }
         ensures after { self.new ≡ asked_count second n self.old }
     {
+        // In the greatest second asked so far: where a clock goes back nothing is granted twice (D-350).
         let spent = self.spent_in(second);
         self.second = second.max(self.second);
         let granted = match spent.checked_add(n) {
@@ -40,6 +41,7 @@ impl LimiterCount {
         match self.limit {
             Limit::Spans { .. } if seconds > 0 => 0,
             Limit::Spans { .. } => self.spent,
+            // By whole seconds, since a decision's second is all that an asking has of time (D-058).
             Limit::Bytes { per_second, .. } => {
                 self.spent
                     .saturating_sub(per_second.saturating_mul(seconds))

@@ -11,7 +11,7 @@ pub trait Limiter {
     /// What an asking at a node, in a second, for such an amount, with this answer makes of it.
     ghost asks: { Self → ℕ → ℕ → ℕ → Bool → Self → Type 0 };
 
-    /// Whether so many spans, or bytes, as the node's limit has it, are granted in this second, in seconds since the
+    /// Whether this amount of spans or bytes, as the node's limit has it, is granted in this second, counted since the
     /// Unix epoch. A second before the greatest one asked counts as the greatest. It takes no memory.
     fn ask(&mut self, node: u16, second: u64, amount: u64) -> bool
         requires node { has_node self.old node ≡ true }

@@ -30,7 +30,8 @@ use Rattle.lane_seq.specs.Pushes.{LaneState, Receives}
 use Rattle.lane_seq.specs.Replies.{IsRefusal, OnReceived, IsReplyTo}
 use Rattle.http_lane.specs.Connection.{Submission, SubmitsAll, submissions, events_of}
 use Rattle.http_lane.specs.declared.answer.ServeEnd.{ServeEnd}
-use Rattle.http_lane.specs.Intake.{Intake, Submits, StopsAtFull, Counts, additions_of, intake, first_conn, connected}
+use Rattle.http_lane.specs.Intake.{Intake, Submits, intake, first_conn, connected}
+use Rattle.lane_seq.specs.Counting.{StopsAtFull, Counts, additions_of}
 use Rattle.lane_worker.specs.Serving.{Connection, LaneAt, ServedOne, ServesAll, is_overflow}
 use Rattle.journal_theory.proofs.ListFacts.{Each, Each-append, Each-weaker, tally-append}
 use Rattle.world_theory.specs.Step.{has_ids, is_of_conn, arrivals}

@@ -1,5 +1,5 @@
--- What was received of the connections that a lane's server served: one after the other, or many at once; and what each
--- way of serving keeps.
+-- What was received from the connections that a lane's server served: one after the other, or many at once; and what
+-- each way of serving keeps.
 use Rattle.std.specs.Prelude.{◌≡◌, ℕ, Bool, true, false, not, List, [], ◌∷◌, length, filter, Option, None}
 use Rattle.otlp_types.specs.declared.arrival.Arrival.{Arrival}
 use Rattle.otlp_types.specs.declared.arrival.Item.{Item}
@@ -36,7 +36,7 @@ module _ {V F X : Type 0} (acceptor_of : V → F) (gives : F → Option X → F 
 -- ---- many connections at once
 
 -- the lane took each connection as its next, what the turns submitted went to it one after the other, each by its
--- connection, and this was received of that
+-- connection, and this was received from that
 abbrev pub ActsLog : (capacity number : ℕ) → (old : LaneAt) → (before : List Arrival) → List Act → (new : LaneAt) → (after : List Arrival) → Type 0
 ActsLog capacity number old before [] new after = (new ≡ old) × (after ≡ before)
 ActsLog capacity number old before (took ordinal moment ∷ acts) new after = (ordinal ≡ old.lane.connected) × ActsLog capacity number (lane_at (connected old.lane) old.counted) before acts new after
@@ -44,7 +44,7 @@ ActsLog capacity number old before (had ordinal b a t ∷ acts) new after = (mid
     × SubmitsAll (Logs capacity) (log (intake old.lane (conn_of number ordinal b) old.counted) before) (submissions t.events) (log (intake mid.lane (conn_of number ordinal a) mid.counted) between)
     × ActsLog capacity number mid between acts new after
 
--- Many connections were served at once, and this was received of them: the turns of each follow its transcript by the
+-- Many connections were served at once, and this was received from them: the turns of each follow its transcript by the
 -- clock, and number its spans on; each was served to its end, unless a count would have passed 2^64-1.
 pub record ReceivesMany (allowed : Allowed) (capacity : ℕ) (at : LaneAt) (before : List Arrival) (last : LaneAt) (after : List Arrival) (is_full : Bool) : Type 0 where
   pub acts : List Act
@@ -58,7 +58,7 @@ module _ {V D : Type 0} (allowed_of : V → Allowed) (driver_of : V → D) (asks
   abbrev pub serves_by_turns : (capacity : ℕ) → (old : V) → (before : LaneAt) → (new : V) → (after : LaneAt) → (is_full : Bool) → Type 0
   serves_by_turns capacity old before new after is_full = ServesMany asks hears (allowed_of old) capacity (driver_of old) before (driver_of new) after is_full
 
-  -- this was received of the connections, and round by round the lane did what its driver said
+  -- this was received from the connections, and round by round the lane did what its driver said
   abbrev pub receives_by_turns : (capacity : ℕ) → (old : V) → (at : LaneAt) → (before : List Arrival) → (new : V) → (last : LaneAt) → (after : List Arrival) → (is_full : Bool) → Type 0
   receives_by_turns capacity old at before new last after is_full =
       ReceivesMany (allowed_of old) capacity at before last after is_full
@@ -66,7 +66,7 @@ module _ {V D : Type 0} (allowed_of : V → Allowed) (driver_of : V → D) (asks
 
 -- ---- what each way of serving keeps
 
--- of these spans, of which so many found a queue full, a lane counts so many at each count
+-- what a lane counts at each count of these spans, of which `refused` found a queue full
 abbrev pub lane_gains : List Arrival → (refused : ℕ) → Count → ℕ
 lane_gains received refused Received = length received
 lane_gains received refused Handed = 0
@@ -78,7 +78,7 @@ lane_gains received refused (Dropped NotSampled) = 0
 lane_gains received refused (Dropped LateNotSampled) = 0
 lane_gains received refused (Dropped ExporterDown) = 0
 
--- so many were counted at each count, or with them a number passes
+-- what was gained was counted at each count, or with it a number passes
 abbrev pub Tallied : (is_full : Bool) → (gained : Count → ℕ) → List ℕ → Type 0
 Tallied true gained counted = Passes gained zeros
 Tallied false gained counted = Gains gained zeros counted

@@ -2,9 +2,9 @@
 //! history of each queue and of each limiter node, come to the lists that `span_weave` weaves.
 //!
 //! The definitions are in `specs/`, to be read in this order: `Jobs` (what each thread promises), `Lanes` (what a lane
-//! received of its connections), `Received` (the same of connections that are served one by one, and of many at once),
-//! `Workers` (all threads of a run), `Ran` (what they did, as the lists of the weave). The functions of this crate do
-//! nothing: their contracts are the laws.
+//! received from its connections), `Received` (the same of connections that are served one by one, and of many at
+//! once), `Workers` (all threads of a run), `Ran` (what they did, as the lists of the weave). The functions of this
+//! crate do nothing: their contracts are the laws.
 #![tactic(auto)]
 
 ghost use Rattle.std.specs.Prelude.{ℕ};

@@ -1,11 +1,10 @@
 -- A report grows by what is counted.
--- For the contracts of `pull_all` and `pull_taken`.
-use Rattle.std.proofs.Common.{◌≡◌, ℕ, ◌+◌, ◌<◌, ◌≤◌, ◌^◌, Bool, true, false, List, [], ◌∷◌, ◌++◌, Option, Some, None, refl, sym, ap, subst, ◌∙◌, arith}
-use Rattle.std.specs.Prelude.{slice_index, if◌then◌else◌}
+-- For the contracts of `pull_all` and `count_dropped`.
+use Rattle.std.proofs.Common.{◌≡◌, ℕ, ◌+◌, ◌<◌, ◌≤◌, ◌^◌, List, [], ◌∷◌, ◌++◌, Option, Some, None, refl, sym, ap, subst, ◌∙◌, arith}
+use Rattle.std.specs.Prelude.{slice_index}
 use Rattle.std.proofs.lemmas.List.Sums.{sum_by-append, sum_by-cons}
 use Rattle.span_ids.specs.declared.outcome.Reason.{Reason}
 use Rattle.journal_theory.specs.Journal.{Settings}
-use Rattle.journal_theory.specs.Fate.{is_same_reason}
 use Rattle.drop_ledger.specs.Places.{place_of}
 use Rattle.drop_ledger.specs.declared.count.Count.{Count}
 use Rattle.drop_ledger.specs.declared.count.Count.TheVariants.{Received, Handed, Dropped}
@@ -25,9 +24,6 @@ passes-later m n k f g h p q e = omega arith
 sum-later : (m n k f g h : ℕ) → m ≡ n + g → n ≡ k + f → h ≡ f + g → m ≡ k + h
 sum-later m n k f g h p q e = omega arith
 
-plus-zero : (n f : ℕ) → f ≡ 0 → n ≡ n + f
-plus-zero n f e = omega arith
-
 pub plus-none : (n : ℕ) → n ≡ n + 0
 plus-none n = omega arith
 
@@ -39,10 +35,6 @@ passes-too : (m n k f : ℕ) → m ≤ n → k ≡ n + f → m ≤ k
 passes-too m n k f p e = omega arith
 
 -- ---- additions, one after the other
-
-pub Adds-none : (r : Option (List ℕ)) (f : Count → ℕ) → ((k : Count) → f k ≡ 0) → Adds r f r
-Adds-none None f z = refl
-Adds-none (Some r) f z = (refl, λ k. (plus-zero (slice_index r (place_of k)) (f k) (z k), λ l. l))
 
 pub Adds-then : (a b c : Option (List ℕ)) (f g h : Count → ℕ) → ((k : Count) → h k ≡ f k + g k) → Adds a f b → Adds b g c → Adds a h c
 Adds-then None b c f g h e p q = let P = λ (x : Option (List ℕ)). Adds x g c in subst P p q
@@ -85,15 +77,6 @@ pub none-dropped : (k : Count) → at_reasons (λ reason. 0) k ≡ 0
 none-dropped Received = refl
 none-dropped Handed = refl
 none-dropped (Dropped reason) = refl
-
-zero-either : (b : Bool) → ◌≡◌ {A = ℕ} (if b then 0 else 0) 0
-zero-either true = refl
-zero-either false = refl
-
-pub none-under : (why : Reason) (k : Count) → at_reasons (λ reason. if is_same_reason why reason then 0 else 0) k ≡ 0
-none-under why Received = refl
-none-under why Handed = refl
-none-under why (Dropped reason) = zero-either (is_same_reason why reason)
 
 pub dropped-more : (f g : Reason → ℕ) (k : Count) → at_reasons (λ reason. f reason + g reason) k ≡ at_reasons f k + at_reasons g k
 dropped-more f g Received = refl

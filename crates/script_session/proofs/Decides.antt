@@ -1,6 +1,6 @@
 -- What is due at an entry is decided, one after the other, by the one limiter.
 -- For the clause `decides` of `decide_all`.
-use Rattle.std.proofs.Common.{◌≡◌, ℕ, zero, suc, ◌+◌, ◌/◌, Bool, true, false, cond, List, [], ◌∷◌, ◌++◌, map, reverse, length, drop, refl, sym, ap, subst, ◌∙◌, append_assoc, append-nil, add-one}
+use Rattle.std.proofs.Common.{◌≡◌, ℕ, zero, suc, ◌+◌, ◌/◌, Bool, true, false, cond, List, [], ◌∷◌, ◌++◌, map, reverse, drop, refl, sym, ap, subst, ◌∙◌, append_assoc, append-nil, add-one}
 use Rattle.otlp_types.specs.declared.arrival.Arrival.{Arrival}
 use Rattle.policy_tree.specs.Tree.{Policies, no_more}
 use Rattle.trace_buffer.specs.Buffer.{is_too_big}
@@ -22,7 +22,8 @@ use Rattle.script_run.specs.Limiting.{answers_to, asked_more, answers_in_turn, a
 use Rattle.script_run.specs.World.{ShardTurn}
 use Rattle.script_session.specs.Pulling.{Export, Counts, PullsAll, DecidesAll}
 use Rattle.script_session.proofs.Adds.{none-dropped, plus-none, plus-two}
-use Rattle.script_session.proofs.Pulls.{PullsAll-none, PullsAll-append}
+use Rattle.script_session.proofs.Pulls.{PullsAll-append}
+use Rattle.script_session.specs.Staying.{PullsAll-none}
 
 -- the journal with the entry, where the first decisions at it were given these answers
 abbrev pub given_to : Entry → ShardTurn → (answers : List (List Bool)) → Journal

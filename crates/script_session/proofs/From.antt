@@ -1,5 +1,5 @@
 -- The shards from a place on: the one there, and the others.
-use Rattle.std.proofs.Common.{◌≡◌, ℕ, ◌+◌, ◌<◌, ◌≤◌, List, [], ◌∷◌, length, drop, set, get_or, length-drop, sym, ap, subst, ◌∙◌, arith}
+use Rattle.std.proofs.Common.{◌≡◌, ℕ, ◌+◌, ◌<◌, ◌≤◌, List, ◌∷◌, length, drop, set, get_or, length-drop, sym, ap, ◌∙◌, arith}
 use Rattle.std.proofs.lemmas.List.{drop_more, drop-set-lt, get_or-set_same, get_or-set_other}
 use Rattle.shard_core.specs.Held.{Held}
 use Rattle.script_session.specs.Pulling.{StayBefore}

@@ -3,7 +3,8 @@
 use Rattle.std.proofs.Common.{◌≡◌, true, refl, ◌∙◌}
 use Rattle.shard_core.specs.Held.{Held, settings}
 use Rattle.script_session.specs.Pulling.{Export, GoesOn, Counts, has_nodes_of}
-use Rattle.script_session.proofs.Pulls.{goes-on, goes-on-then}
+use Rattle.script_session.proofs.Pulls.{goes-on-then}
+use Rattle.script_session.specs.Staying.{goes-on}
 use Rattle.script_session.proofs.Nodes.{SameNodes, nodes-then, nodes-kept}
 
 -- from these on, with which it began, to those that it has now

@@ -1,5 +1,6 @@
 pub mod Adds
 pub mod Replies
+pub mod Replied
 pub mod Numbers
 pub mod Pulls
 pub mod Nodes

@@ -22,7 +22,8 @@ use Rattle.script_run.specs.Sending.{SentBatch}
 use Rattle.script_run.specs.World.{ScriptWorld, replied, was_sent, new_world, after_reply, after_receiving}
 use Rattle.script_run.specs.Counts.{counted_at_lanes, dropped_by_journal, counted_at_shards, counted_for, counted_at, number_reported, Reports}
 use Rattle.script_session.specs.Adding.{at_reasons, counted_in}
-use Rattle.script_session.specs.Submitting.{received_by, is_received}
+use Rattle.lane_seq.specs.Replies.{is_received}
+use Rattle.script_session.specs.Submitting.{received_by}
 use Rattle.script_session.specs.Pulling.{dropped_by_all}
 
 -- ---- batches and journals

@@ -1,5 +1,5 @@
 -- Spans go into the batch, and batches to the sink.
--- For the contracts of `end_all`, `pull`, `pull_all`, `pull_decided` and `pull_taken`.
+-- For the contracts of `end_all`, `pull`, `pull_all` and `count_dropped`.
 use Rattle.std.proofs.Common.{◌≡◌, ◌≢◌, ℕ, ◌+◌, ◌<◌, ◌≤◌, ◌==◌, Bool, true, false, Option, List, [], ◌∷◌, ◌++◌, length, refl, sym, ap, subst, ◌∙◌, arith, append_assoc, append-nil, length-append, if◌then◌else◌}
 use Rattle.std.specs.List.{AllByRecursion}
 use Rattle.std.proofs.lemmas.Grind.{flat_map-append}
@@ -20,7 +20,8 @@ use Rattle.script_run.specs.Sending.{SentBatch, spans_of, AreBatches, SendsAll, 
 use Rattle.script_run.specs.Counts.{counted_for}
 use Rattle.script_session.specs.Adding.{Adds, at_count, at_reasons, counted_in}
 use Rattle.script_session.specs.Pulling.{PullsAll, GoesOn, Export}
-use Rattle.script_session.proofs.Adds.{Adds-none, Adds-then, Adds-same, counted-append, counted-one, none-dropped, dropped-more}
+use Rattle.script_session.specs.Staying.{Adds-none}
+use Rattle.script_session.proofs.Adds.{Adds-then, Adds-same, counted-append, counted-one, none-dropped, dropped-more}
 
 pub SendsAll-append : (old mid new : LineSinkState) (xs ys : List SentBatch) → SendsAll old xs mid → SendsAll mid ys new → SendsAll old (xs ++ ys) new
 SendsAll-append old mid new [] ys p q = let P = λ (s : LineSinkState). SendsAll s ys new in subst P p q
@@ -33,24 +34,9 @@ all_append : {A : Type 0} (P : A → Type 0) (xs ys : List A) → AllByRecursion
 all_append P [] ys a b = b
 all_append P (x ∷ xs) ys a b = (a.0, all_append P xs ys a.1 b)
 
--- what stays of the exporter stays where nothing is done
-pub goes-on : (e : Export) → GoesOn e e
-goes-on e = (refl, λ down. down)
-
--- and over two calls
+-- what stays of the exporter over two calls
 pub goes-on-then : (a b c : Export) → GoesOn a b → GoesOn b c → GoesOn a c
 goes-on-then a b c p q = (q.0 ∙ p.0, λ down. q.1 (p.1 down))
-
-pub PullsAll-none : (e : Export) (f : Reason → ℕ) → ((k : Count) → at_reasons f k ≡ 0) → PullsAll e [] f e
-PullsAll-none e f none = record {
-  batches = [];
-  full = tt;
-  are_all = sym (append-nil e.0.batch);
-  sends = refl;
-  adds = Adds-none e.1 _ (λ k. let z = none k in omega (arith, z));
-  size = refl;
-  ends = refl;
-}
 
 regroup : (f g p q a h : ℕ) → a ≡ p + q → h ≡ f + g → h + a ≡ (f + p) + (g + q)
 regroup f g p q a h e d = omega arith

@@ -14,7 +14,8 @@ use Rattle.otlp_types.specs.declared.arrival.Item.{Item}
 use Rattle.otlp_types.specs.declared.arrival.Item.TheVariants.{Span}
 use Rattle.script_run.specs.Connections.{Contacts}
 use Rattle.script_run.specs.World.{empty_queues}
-use Rattle.script_session.specs.Submitting.{Submits, is_received}
+use Rattle.lane_seq.specs.Replies.{is_received}
+use Rattle.script_session.specs.Submitting.{Submits}
 use Rattle.script_session.specs.Pulling.{is_queued, emptied, HoldsQueued}
 
 -- ---- one place of a list

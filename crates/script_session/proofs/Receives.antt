@@ -20,7 +20,8 @@ use Rattle.script_run.specs.Requests.{IsTakenFor, reply_line, reads, refuses, ar
 use Rattle.script_run.specs.World.{ScriptWorld, Sizes, RunsToQuiet, RepliesAndRuns, Receives, after_reply, empty_queues}
 use Rattle.script_run.specs.Counts.{number_reported, counted_for}
 use Rattle.script_session.specs.Adding.{Adds}
-use Rattle.script_session.specs.Submitting.{Submits, is_received, received_by}
+use Rattle.lane_seq.specs.Replies.{is_received}
+use Rattle.script_session.specs.Submitting.{Submits, received_by}
 use Rattle.script_session.specs.Pulling.{Export, Counts, HaveSettings, HaveReleased, RoundsTaken, AreOf, items_in}
 use Rattle.script_session.proofs.Adds.{Reports-grow}
 use Rattle.script_session.proofs.Numbers.{number-received, number-replied, refusal-counts}

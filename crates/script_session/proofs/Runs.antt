@@ -14,7 +14,8 @@ use Rattle.script_run.specs.World.{ShardTurn, entry_of, with_entry, Takes}
 use Rattle.script_run.specs.Counts.{dropped_by_journal}
 use Rattle.script_session.specs.Pulling.{Export, Counts, PullsAll, HasTaken, TakesAndPulls, TakesItems, DecidesAll}
 use Rattle.script_session.proofs.Adds.{none-dropped, plus-none, plus-two}
-use Rattle.script_session.proofs.Pulls.{PullsAll-none, PullsAll-append}
+use Rattle.script_session.proofs.Pulls.{PullsAll-append}
+use Rattle.script_session.specs.Staying.{PullsAll-none}
 
 pub Takes-append : (s : Settings) (a b c : ShardTurn) (xs ys : List Item) → Takes s a xs b → Takes s b ys c → Takes s a (xs ++ ys) c
 Takes-append s a b c [] ys p q = let P = λ (t : ShardTurn). Takes s t ys c in subst P p q

@@ -17,7 +17,8 @@ use Rattle.script_run.specs.World.{ShardTurn, TakesFor, TakesEach, TakesRounds, 
 use Rattle.script_run.specs.Counts.{dropped_by_journal}
 use Rattle.script_session.specs.Pulling.{Export, Counts, TakesItems, HaveSettings, AreQuiet, HaveReleased, dropped_by_all, Taking, EachTakes, RoundsTaken, is_queued}
 use Rattle.script_session.proofs.Adds.{none-dropped, plus-none, plus-two}
-use Rattle.script_session.proofs.Pulls.{PullsAll-none, PullsAll-append}
+use Rattle.script_session.proofs.Pulls.{PullsAll-append}
+use Rattle.script_session.specs.Staying.{PullsAll-none}
 
 -- ---- what a queue holds
 

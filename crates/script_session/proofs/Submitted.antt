@@ -1,6 +1,6 @@
 -- What a reply tells of its request.
 -- For the contract of `submit`.
-use Rattle.std.proofs.Common.{◌≡◌, ℕ, ◌+◌, Bool, true, false, List, Some, None, length, refl, sym, ap, subst, ◌∙◌, inl, inr}
+use Rattle.std.proofs.Common.{◌≡◌, ℕ, ◌+◌, Bool, true, false, List, length, refl, sym, ap, subst, ◌∙◌, inl, inr}
 use Rattle.std.specs.Prelude.{nat_eq}
 use Rattle.indexmap.specs.IndexMap.{insert_entry}
 use Rattle.lane_queue.specs.Queues.{QueueState, TakesLast, IsFull}
@@ -18,7 +18,8 @@ use Rattle.lane_seq.specs.declared.reply.Reply.{Reply}
 use Rattle.lane_seq.specs.declared.reply.Reply.TheVariants.{Done, Partial, BadData as BadRequest, Busy}
 use Rattle.lane_seq.specs.Replies.{IsRefusal, OnReceived}
 use Rattle.script_run.specs.Requests.{IsTakenFor, refuses, arrivals_of}
-use Rattle.script_session.specs.Submitting.{Submits, is_received}
+use Rattle.lane_seq.specs.Replies.{is_received}
+use Rattle.script_session.specs.Submitting.{Submits}
 
 -- what holds where the spans were received
 pub received : (reply : Reply) (F : Type 0) → is_received reply ≡ true → OnReceived reply F → F

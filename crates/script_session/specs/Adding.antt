@@ -9,15 +9,15 @@ use Rattle.drop_ledger.specs.declared.count.Count.TheVariants.{Received, Handed,
 use Rattle.script_run.specs.Sending.{SentBatch}
 use Rattle.script_run.specs.Counts.{counted_for}
 
--- so many spans were added to each count, and what was below 2^64 is so still; from the first number on that passed
--- 2^64-1 there is no report
+-- these numbers of spans were added to the counts, and what was below 2^64 is so still; from the first number on that
+-- passed 2^64-1 there is no report
 abbrev pub Adds : (old : Option (List ℕ)) → (added : Count → ℕ) → (new : Option (List ℕ)) → Type 0
 Adds None added new = new ≡ None
 Adds (Some numbers) added (Some more) = (length more ≡ length numbers) × ((count : Count)
     → (slice_index more (place_of count) ≡ slice_index numbers (place_of count) + added count) × (slice_index numbers (place_of count) < 2 ^ 64 → slice_index more (place_of count) < 2 ^ 64))
 Adds (Some numbers) added None = (count : Count) × (2 ^ 64 ≤ slice_index numbers (place_of count) + added count)
 
--- so many spans at this count alone
+-- these spans at this count alone
 abbrev pub at_count : (what : Count) → (spans : ℕ) → Count → ℕ
 at_count Received spans Received = spans
 at_count Handed spans Handed = spans

@@ -6,7 +6,7 @@ use Rattle.tsc_script.specs.declared.stop.ScriptStop.TheVariants.{NoMemory as No
 use Rattle.script_session.specs.declared.fault.ReplayFault.{ReplayFault}
 use Rattle.script_session.specs.declared.fault.ReplayFault.TheVariants.{NoMemory, Refused, Fault, CounterOverflow, SinkDown}
 
--- each answer comes of its own cause, and its report is the run's; a count would pass 2^64-1 where there is no report
+-- each answer comes from its own cause, and its report is the run's; a count would pass 2^64-1 where there is no report
 abbrev pub AnswersStop : Result (Unit {0}) ScriptStop → Option (List ℕ) → Result Report ReplayFault → Type 0
 AnswersStop played report (Ok numbers) = (played ≡ Ok tt) × (report ≡ Some numbers)
 AnswersStop played report (Err NoMemory) = played ≡ Err NothingRead

@@ -1,7 +1,8 @@
 -- To be read in this order: Replay, Answers, CalmReplays (what a run leaves and answers); Starting, Submitting,
--- Signals, Pulling, Adding, Playing (for provers).
+-- Signals, Pulling, Adding, Staying, Playing (for provers).
 pub mod Adding
 pub mod Pulling
+pub mod Staying
 pub mod Replay
 pub mod Answers
 pub mod CalmReplays

@@ -118,7 +118,7 @@ has_none_due shards = list_all (λ h. not (has_due h)) shards
 abbrev pub ends_in : List Held → List (List Bool)
 ends_in shards = map (λ h. h.standing.ends) shards
 
--- of the senders, so many lanes and the ticker, all have ended or none
+-- of the senders, the lanes and the ticker, all have ended or none
 abbrev pub ends_of : (lanes : ℕ) → (closed : Bool) → List Bool
 ends_of lanes closed = replicate (lanes + 1) closed
 

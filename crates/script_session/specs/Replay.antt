@@ -1,8 +1,6 @@
 -- What a run over a script leaves of its sink.
-use Rattle.std.specs.Prelude.{◌≡◌, ◌⊎◌, ◌+◌, ◌/◌, ◌≤◌, ℕ, true, [], ◌∷◌, ◌++◌, List, length, Option, Some, None, Result, Ok, Err, IfSome}
+use Rattle.std.specs.Prelude.{◌≡◌, ◌⊎◌, ◌≤◌, ℕ, true, [], ◌∷◌, ◌++◌, List, length, Option, Some, None, Result, Ok, Err, IfSome}
 use Rattle.journal_theory.specs.Journal.{Settings}
-use Rattle.config_shards.specs.Shards.{settings_by}
-use Rattle.tsc_config.specs.declared.config.Config.{Config}
 use Rattle.span_sink.specs.LineSinks.{LineSinkState, up_state, down_state}
 use Rattle.drop_ledger.specs.declared.report.Report.{Report}
 use Rattle.tsc_script.specs.Instructions.{Instruction, close}

@@ -9,6 +9,6 @@ use Rattle.config_shards.specs.Shards.{settings_by}
 abbrev pub IsNew : Config → Held → Type 0
 IsNew config h = (settings h ≡ settings_by config) × IsQuiet (ends_of config.lanes false) h × HasReleasedAll h []
 
--- so many shards of this configuration that have taken nothing
+-- shards of this configuration, of this number, that have taken nothing
 abbrev pub AreNew : Config → (shards : ℕ) → List Held → Type 0
 AreNew config shards made = (length made ≡ shards) × HaveSettings (settings_by config) made × AreQuiet (ends_of config.lanes false) made × HaveReleased made (replicate shards [])

@@ -1,10 +1,10 @@
 -- What submitting a request does to the connections and the queues: words of private functions.
-use Rattle.std.specs.Prelude.{◌≡◌, ◌⊎◌, ℕ, Bool, true, false, nat_eq, List, length, None}
+use Rattle.std.specs.Prelude.{◌≡◌, ◌⊎◌, ℕ, Bool, nat_eq, List, length, None}
 use Rattle.std.specs.Map.{lookup}
 use Rattle.lane_queue.specs.Queues.{QueueState, TakesLast, IsFull}
 use Rattle.lane_seq.specs.Pushes.{Receives as IsPushed}
 use Rattle.lane_seq.specs.declared.reply.Reply.{Reply}
-use Rattle.lane_seq.specs.declared.reply.Reply.TheVariants.{Done, Partial, BadData, Busy}
+use Rattle.lane_seq.specs.declared.reply.Reply.TheVariants.{Done, Partial, Busy}
 use Rattle.span_ids.specs.declared.outcome.Reason.TheVariants.{InvalidId, QueueFull}
 use Rattle.drop_ledger.specs.declared.count.Count.{Count}
 use Rattle.drop_ledger.specs.declared.count.Count.TheVariants.{Received, Dropped}
@@ -12,13 +12,6 @@ use Rattle.otlp_types.specs.declared.request.Request.{Request}
 use Rattle.otlp_types.specs.declared.arrival.Item.{Item}
 use Rattle.script_run.specs.Connections.{Contacts, connection_of, with_connection, with_received}
 use Rattle.script_run.specs.Requests.{reads, refuses, IsTakenFor, arrivals_of}
-
--- the request's spans were received
-abbrev pub is_received : Reply → Bool
-is_received (Done spans) = true
-is_received (Partial spans invalid full) = true
-is_received (BadData cause) = false
-is_received Busy = false
 
 -- what a reply tells of the spans that were received, and of those among them that went to no shard
 abbrev pub received_by : Reply → Count → ℕ

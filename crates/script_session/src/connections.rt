@@ -29,7 +29,7 @@ impl Model for Connections {
 }
 
 impl Connections {
-    /// No connection was used, of so many lanes.
+    /// No connection was used, of this number of lanes.
     pub fn new(alloc: Global, lanes: u16) -> Result<Connections, AllocError>
         requires { 0 < lanes }
         ensures { IfOk result (λ c. c ≡ record { connections = []; connected = replicate lanes 0 }) }
@@ -63,6 +63,7 @@ impl Connections {
         }
         let lane = (number % self.connected.len() as u64) as usize;
         let ordinal = self.connected[lane];
+        // Answered as where memory was refused (D-233).
         let Some(next) = ordinal.checked_add(1) else {
             return Err(AllocError);
         };

@@ -11,7 +11,7 @@ use rate_budget::Budgets;
 use shard_core::Shard;
 use span_sink::Sink;
 
-/// So many lanes end at each shard, and then the ticker.
+/// The lanes, of this number, end at each shard, and then the ticker.
 pub fn end_all<S: Sink>(
     shards: &mut [Shard],
     limiter: &mut Budgets,
@@ -27,6 +27,7 @@ pub fn end_all<S: Sink>(
     ensures length { length shards.new ≡ length shards.old }
     ensures goes_on { GoesOn output.old output.new }
 {
+    // One after the other at every shard, and then the ticker: only the last End makes traces due (D-236).
     for lane in 0..lanes {
         tell_each(shards, limiter, output, Signal::End(lane));
     }

@@ -4,10 +4,14 @@ ghost use Rattle.span_exporter.specs.Exports.{ExporterState, Sends, WritesLine};
 ghost use Rattle.script_run.specs.Counts.{counted_for};
 ghost use Rattle.script_session.specs.Adding.{Adds, at_count};
 ghost use Rattle.script_session.specs.Pulling.{PullsAll, GoesOn};
+ghost use Rattle.script_session.specs.Submitting.{received_by};
 
 use drop_ledger::{Count, Report};
+use lane_seq::{Reply, count_reply};
 use otlp_types::{Arrival, Shipment};
+use shard_core::Desk;
 use span_exporter::{Exporter, Flushed, Pulled};
+use span_ids::Reason;
 use span_sink::{LineSink, Sink};
 use std::marker::Model;
 
@@ -72,6 +76,14 @@ impl<S: Sink> Output<S> {
         count(&mut self.report, what, spans);
     }
 
+    /// Counts the spans of a request, and those of them that go to no shard.
+    pub fn count_reply(&mut self, reply: &Reply)
+        ensures counted { Adds self.old.1 (received_by reply.now) self.new.1 }
+        ensures same { self.new.0 ≡ self.old.0 }
+    {
+        count_replied(&mut self.report, reply);
+    }
+
     /// Hands a line to the sink that is no batch.
     pub fn note(&mut self, line: &[u8])
         ensures written { WritesLine self.old.0.sink line.now self.new.0.sink }
@@ -79,6 +91,7 @@ impl<S: Sink> Output<S> {
         ensures counted { self.new.1 ≡ self.old.1 }
         ensures goes_on { GoesOn self.old self.new }
     {
+        // A write that failed is seen by `is_down`.
         let _ = self.exporter.note(line);
     }
 
@@ -114,12 +127,47 @@ impl<S: Sink> Output<S> {
     }
 }
 
+impl<S: Sink> Desk<()> for Output<S> {
+    ghost use Rattle.script_session.specs.Pulling.{PullsAll, GoesOn};
+    ghost use Rattle.script_session.specs.Staying.{pulls-none, goes-on};
+
+    ghost takes = { λ old spans dropped new. PullsAll old spans dropped new × GoesOn old new };
+
+    fn ship(&mut self, _lent: &(), span: Arrival) {
+        self.pull(span);
+    }
+
+    fn ship_all(&mut self, _lent: &(), spans: Vec<Arrival>) {
+        self.pull_all(spans);
+    }
+
+    fn count_dropped(&mut self, why: Reason, spans: u64) {
+        self.count(Count::Dropped(why), spans);
+    }
+
+    ghost stays = { λ s dropped none. (pulls-none s dropped none, goes-on s) };
+}
+
 /// Counts spans, until a count would pass 2^64-1: from then on nothing is counted.
 fn count(report: &mut Option<Report>, what: Count, spans: u64)
     ensures { Adds report.old (at_count what spans) report.new }
 {
     if let Some(numbers) = report {
         if numbers.add(what, spans).is_err() {
+            *report = None;
+        }
+    }
+}
+
+/// Counts what a reply tells, until a count would pass 2^64-1: from then on nothing is counted.
+fn count_replied(report: &mut Option<Report>, reply: &Reply)
+    ensures { Adds report.old (received_by reply.now) report.new }
+{
+    if let Some(numbers) = report {
+        // For the proof alone, and of no effect: `add` says that a report has nine numbers, and a `Counter` doesn't.
+        let mut nine = *numbers;
+        let _ = nine.add(Count::Received, 0);
+        if !count_reply(numbers, reply) {
             *report = None;
         }
     }

@@ -1,17 +1,14 @@
 //! A request of a script, from its lane to the queues of the shards.
 ghost use Rattle.std.specs.Prelude.{◌≡◌, ◌<◌, length};
-ghost use Rattle.script_session.specs.Adding.{Adds};
-ghost use Rattle.script_session.specs.Submitting.{Submits, is_received, received_by};
+ghost use Rattle.lane_seq.specs.Replies.{is_received};
+ghost use Rattle.script_session.specs.Submitting.{Submits};
 
 use crate::connections::Connections;
-use crate::output::Output;
-use drop_ledger::Count;
 use lane_queue::ListPort;
 use lane_seq::{Lane, Reply};
 use otlp_encoding::Encoding;
 use otlp_types::Item;
-use span_ids::{Moment, Reason};
-use span_sink::Sink;
+use span_ids::Moment;
 use std::alloc::Global;
 
 /// Reads a request on the lane of its connection, which keeps doubles or discards them: its spans get their numbers and
@@ -34,6 +31,7 @@ pub(crate) fn submit(
         return (Reply::Busy, queues);
     };
     let mut after = conn;
+    // One set of queues for all lanes: between two lines each queue is empty (D-234).
     let mut lane = Lane::new(conn.key.lane, queues).keeping_doubles(keeps_doubles);
     let reply = lane.submit(alloc, &mut after, Encoding::Json, body, moment);
     if is_received(&reply) {
@@ -51,25 +49,5 @@ pub fn is_received(reply: &Reply) -> bool
         Reply::Partial { .. } => true,
         Reply::BadData(_) => false,
         Reply::Busy => false,
-    }
-}
-
-/// Counts the spans of a request, and those of them that go to no shard.
-pub fn count_received<S: Sink>(output: &mut Output<S>, reply: &Reply)
-    ensures counted { Adds output.old.1 (received_by reply.now) output.new.1 }
-    ensures same { output.new.0 ≡ output.old.0 }
-{
-    match reply {
-        Reply::Done { spans } => output.count(Count::Received, *spans),
-        Reply::Partial {
-            spans,
-            invalid,
-            full,
-        } => {
-            output.count(Count::Received, *spans);
-            output.count(Count::Dropped(Reason::InvalidId), *invalid);
-            output.count(Count::Dropped(Reason::QueueFull), *full);
-        }
-        Reply::BadData(_) | Reply::Busy => {}
     }
 }

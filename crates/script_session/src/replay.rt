@@ -58,6 +58,7 @@ pub fn replay_run<R: Source, S: Sink>(
     let Ok(parts) = parts_of(alloc, &config) else {
         return (lines.end(), Err(ReplayFault::NoMemory));
     };
+    // Of one shard: a session pulls no shard's `End`, so their number is no matter.
     let exporter = match Exporter::new(alloc, config.send_batch_size, 1, lines) {
         Ok(exporter) => exporter,
         Err((lines, _)) => return (lines.end(), Err(ReplayFault::NoMemory)),
@@ -107,10 +108,12 @@ fn parts_of(alloc: Global, config: &Config) -> Result<RunParts, AllocError>
     ensures limiter { IfOk result (λ parts. parts.limiter ≡ limiter_counts (meaning config.now.policies) []) }
     ensures text { IfOk result (λ parts. MAX_REPLY_LINE ≤ vec_capacity parts.text) }
 {
+    // At the start, so that a reply never lacks room (D-227).
     let text = Vec::with_capacity(alloc, MAX_REPLY_LINE)?;
     let connections = Connections::new(alloc, config.lanes)?;
     let queues = new_queues(alloc, config.queue_capacity, config.shards)?;
     let limiter = Budgets::new(alloc, &config.policies)?;
+    // So a run reads nothing but its files, and takes the same instructions each time (D-087).
     let shards = new_shards(alloc, TraceHashing::Fixed, config)?;
     Ok(RunParts {
         connections,

@@ -13,7 +13,7 @@ use crate::connections::Connections;
 use crate::ending::end_all;
 use crate::fault::ReplayFault;
 use crate::output::Output;
-use crate::receiving::{count_received, is_received, submit};
+use crate::receiving::{is_received, submit};
 use crate::replying::{MAX_REPLY_LINE, write_reply_line};
 use crate::signal::Signal;
 use crate::taking::{take_received, tell_each};
@@ -91,6 +91,7 @@ impl<S: Sink> Session<S> {
         ensures plays { PlaysOne self.old (receive number moment body.now) self.new }
         ensures leaves { Leaves self.old (receive number moment body.now) self.new }
     {
+        // A lane owns its ports: the queues go to it, and come back with the reply (D-234).
         let queues = mem::replace(&mut self.queues, Vec::new(self.alloc));
         let (reply, queues) = submit(
             self.alloc,
@@ -102,7 +103,7 @@ impl<S: Sink> Session<S> {
             body,
         );
         self.queues = queues;
-        count_received(&mut self.output, &reply);
+        self.output.count_reply(&reply);
         hand_reply(&mut self.text, &mut self.output, &reply);
         take_received(
             is_received(&reply),
@@ -178,6 +179,7 @@ impl<S: Sink> Machine for Session<S> {
 
     fn play(&mut self, command: ScriptCommand<'_>) -> bool {
         self.obey(command);
+        // Behind a write that failed only a close is played (D-239).
         !self.output.is_down()
     }
 }

@@ -4,19 +4,17 @@ ghost use Rattle.std.specs.List.{AllByRecursion, list_all};
 ghost use Rattle.rate_budget.specs.Budget.{limiter_counts, has_node};
 ghost use Rattle.journal_theory.specs.Journal.{Entry, Settings, has_ids};
 ghost use Rattle.shard_core.specs.Held.{StandsFor, has_due, is_finished, settings};
-ghost use Rattle.shard_core.specs.Taking.{ends_after, released_by, released_in, dropped_by, dropped_in};
+ghost use Rattle.shard_core.specs.Taking.{ends_after};
 ghost use Rattle.script_run.specs.World.{ShardTurn, to_each};
 ghost use Rattle.script_session.specs.Signals.{item_of};
 ghost use Rattle.script_session.specs.Pulling.{PullsAll, GoesOn, TakesItems, DecidesAll, has_nodes_of, has_all_nodes, AreOpen, AreQuiet, HaveSettings, EachTakes, RoundsTaken, StayBefore, rounds_of, is_queued, emptied, items_in, HoldsQueued};
 
 use crate::output::Output;
 use crate::signal::Signal;
-use drop_ledger::Count;
 use lane_queue::ListPort;
 use otlp_types::Item;
 use rate_budget::Budgets;
-use shard_core::{Decided, Shard, Taken};
-use span_ids::Reason;
+use shard_core::{Shard, settle_decided, settle_taken};
 use span_sink::Sink;
 
 /// Takes an item, decides all that is due by the limiter, and puts what that releases into the batch.
@@ -37,31 +35,10 @@ pub fn take_item<S: Sink>(
     ensures settings { settings shard.new ≡ settings shard.old }
     ensures goes_on { GoesOn output.old output.new }
 {
+    // Nothing limits memory here but the allocator itself.
     let taken = shard.take(item, true);
-    pull_taken(output, taken);
+    settle_taken(&(), taken, output);
     decide_all(shard, limiter, output);
-}
-
-/// Puts what an item released at once into the batch.
-fn pull_taken<S: Sink>(output: &mut Output<S>, taken: Taken)
-    ensures pulls { PullsAll output.old (released_by taken) (λ reason. dropped_by reason taken) output.new }
-    ensures goes_on { GoesOn output.old output.new }
-{
-    match taken {
-        Taken::Late(arrival) => output.pull(arrival),
-        Taken::Dropped(reason) => output.count(Count::Dropped(reason), 1),
-        Taken::Kept {
-            evicted: Some(left),
-            cache: _,
-        } => output.count(Count::Dropped(Reason::Evicted), left.spans),
-        Taken::Kept {
-            evicted: None,
-            cache: _,
-        } => {}
-        Taken::Ticked => {}
-        Taken::Ended => {}
-        Taken::Finished => {}
-    }
 }
 
 /// Decides all that is due by the limiter, and puts what that releases into the batch.
@@ -77,22 +54,9 @@ fn decide_all<S: Sink>(shard: &mut Shard, limiter: &mut Budgets, output: &mut Ou
 {
     'deciding: loop {
         let decided = shard.decide(limiter);
-        if let Decided::Nothing = decided {
+        if !settle_decided(&(), decided, output) {
             return;
         }
-        pull_decided(output, decided);
-    }
-}
-
-/// Puts what a decision released into the batch.
-fn pull_decided<S: Sink>(output: &mut Output<S>, decided: Decided)
-    ensures pulls { PullsAll output.old (released_in decided) (λ reason. dropped_in reason decided) output.new }
-    ensures goes_on { GoesOn output.old output.new }
-{
-    match decided {
-        Decided::Release(spans) => output.pull_all(spans),
-        Decided::Dropped(spans) => output.count(Count::Dropped(Reason::NotSampled), spans),
-        Decided::Nothing => {}
     }
 }
 
@@ -217,6 +181,7 @@ pub fn tell_each<S: Sink>(
     ensures length { length shards.new ≡ length shards.old }
     ensures goes_on { GoesOn output.old output.new }
 {
+    // In turn over one limiter, so shard 0 is always asked first (D-056).
     tell_from(shards, 0, limiter, output, signal);
 }
 

@@ -53,6 +53,7 @@ fn keep(cache: &mut DecisionCache, evicted: Option<Evicted>) -> Taken
             cache: None,
         };
     };
+    // It may be lost for want of memory, or the cache be off: nothing else changes then (D-075, D-076).
     let put = cache.remember(left.trace, verdict);
     Taken::Kept {
         evicted: Some(left),

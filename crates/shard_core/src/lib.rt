@@ -4,7 +4,7 @@
 //! What a shard answers is a function of the list of items that it has taken, its journal, and of where memory was
 //! refused. No journal is stored: each clause speaks of every journal that the shard stands for. The words for journals
 //! are those of `journal_theory`, whose module `laws`, of what holds of every journal, is shown here too. The buffer
-//! holds so many traces at most; the verdict of a decided trace that leaves it goes into a cache of decisions.
+//! holds at most `num_traces` traces; the verdict of a decided trace that leaves it goes into a cache of decisions.
 //!
 //! ```
 //! let mut shard = Shard::new(alloc, policies, setup)?;
@@ -16,12 +16,14 @@
 #![tactic(auto)]
 
 mod answer;
+mod desk;
 mod ends;
 mod keeping;
 mod setup;
 mod shard;
 
 pub use answer::{Decided, Taken};
+pub use desk::{Desk, settle_decided, settle_taken};
 pub use journal_theory::laws;
 pub use setup::{ShardSetup, Waits};
 pub use shard::Shard;

@@ -120,6 +120,7 @@ impl Shard {
         ensures { result ≡ due_by self.now }
     {
         if self.finished() {
+            // No episode opened after the clock, so without a wait each is due.
             (self.clock, 0, 0)
         } else {
             (self.mark, self.waits.decision_wait, self.waits.root_wait)
@@ -203,6 +204,7 @@ impl Shard {
         let ids = ids_of(&arrival).unwrap();
         // The other id is read for the proof: the borrow checker's part must see each type that a lent span has.
         let (trace, _span) = (ids.trace, ids.span);
+        // Looked up here and again by `append`: what becomes of it is the shard's rule, its place the buffer's (D-285).
         match self.buffer.find(trace) {
             Some(State::Undecided) => {
                 appended(append(&mut self.buffer, arrival, self.clock, has_memory))
@@ -237,6 +239,7 @@ impl Shard {
         ensures answer { result ≡ (if is_finished self.new then Taken.Finished else Taken.Ended) }
         ensures after { self.new ≡ record self.old { standing = held_after_end sender self.old.standing } }
     {
+        // One of no sender changes nothing, and so does one that was taken before.
         if sender < self.ends.len() {
             self.ends[sender] = true;
         }
@@ -294,6 +297,7 @@ impl Shard {
         ensures policies { self.new.policies ≡ self.old.policies }
         ensures settings { settings self.new ≡ settings self.old }
     {
+        // It goes on from where it came to, as long as mark and waits are the same (D-084).
         self.search();
         let (mark, decision_wait, root_wait) = self.due_by();
         let now = self.clock;
@@ -328,6 +332,7 @@ fn decide_on<L: Limiter>(
     ensures keeps { (m : ℕ) → L.has_node limiter.new m ≡ L.has_node limiter.old m }
     ensures same { searches.new ≡ searches.old }
 {
+    // No policy is asked: so the maximum holds against each, and no limiter pays for what isn't kept (D-064).
     if episode.is_too_big() {
         return (Verdict::NotSampled, None);
     }
@@ -366,6 +371,7 @@ fn append(
     ensures appended { Appended buffer.old arrival arrival.rec.span.ids clock result buffer.new }
     ensures no_memory { has_memory ≡ false → is_kept (answer_to_append result) ≡ false }
 {
+    // A brake counts as memory that was refused, so that for the core it is the same input (D-173).
     if has_memory {
         buffer.append(arrival, clock)
     } else {

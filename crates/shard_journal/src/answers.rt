@@ -62,6 +62,7 @@ pub fn marks_apply_to(
 ) -> bool
     ensures { result ≡ marks_apply_to (settings_of settings.now) noted.now refused lost (the_finding found) }
 {
+    // Never both: a refused span opens nothing, so it evicts nothing (D-095).
     let refusal = refusal_applies(&found);
     let loss = loss_applies(settings, noted, &found);
     (!refused || refusal) && (!lost || !refused && loss)

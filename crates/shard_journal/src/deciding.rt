@@ -24,6 +24,7 @@ fn decide(
     ensures { IfOk result (λ made. made ≡ without_spans (decision (settings_of settings.now) (reverse past.now) opening answers.now)) }
 {
     let spans = spans_since(alloc, past, &opening)?;
+    // Anew for each decision: only tests run this (D-048).
     let mut searches = searches_for(alloc, &settings.policies)?;
     let verdict = verdict_on(settings, spans.as_slice(), answers, &mut searches);
     Ok(Decision::new(opening, verdict))
@@ -40,6 +41,7 @@ pub fn decide_each(
 ) -> Result<(), AllocError>
     ensures { OnOk result ((full : NotesData) → noted.old ≡ short_notes full → noted.new ≡ short_notes (after_decisions (decisions_in_turn (settings_of settings.now) (reverse past.now) due.now answers.now) full)) }
 {
+    // What was given no answers is still undecided (D-054).
     for i in 0..due.len().min(answers.len()) {
         let made = decide(alloc, settings, past, due[i], answers[i].as_slice())?;
         noted.decide(made)?;

@@ -141,6 +141,7 @@ fn is_oversized(
 fn is_root_past(root_wait: Moment, now: Moment, journal: &[Entry], opening: &Opening) -> bool
     ensures { result ≡ is_root_past root_wait now (reverse journal.now) opening.now }
 {
+    // Some such root, as the definition says it; a shard keeps the first one alone (D-071).
     let mut clock = 0;
     let mut found = false;
     for at in 0..journal.len() {
@@ -174,7 +175,7 @@ fn is_root(arrival: &Arrival) -> bool
     }
 }
 
-/// Whether what came at a moment has waited so long at this clock.
+/// Whether what came at a moment has waited for `decision_wait` at this clock.
 fn has_waited(decision_wait: Moment, clock: Moment, moment: Moment) -> bool
     ensures { result ≡ nat_le (moment + decision_wait) clock }
 {

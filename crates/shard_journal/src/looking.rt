@@ -51,6 +51,7 @@ impl LookBack {
     ) -> Result<LookBack, AllocError>
         ensures { IfOk result (λ look. look ≡ look_of (settings_of settings.now) (reverse journal.now)) }
     {
+        // Kept, so that whether a step is enabled takes no memory that can be refused (D-100).
         let due = due_now(alloc, settings, journal)?;
         let spans = spans_of_each(alloc, journal, due.as_slice())?;
         let noted = notes_of(alloc, settings, journal)?;

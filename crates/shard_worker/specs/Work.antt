@@ -53,7 +53,7 @@ abbrev pub is_tick : Item → Bool
 is_tick (Tick moment) = true
 is_tick _ = false
 
--- what a shard took of what it popped in one round: an item that is no tick; or a tick behind what it popped of other
+-- what a shard took of what it popped in one round: an item that is no tick; or a tick behind what it popped from other
 -- queues since it had popped the tick; or so, and behind the tick the item with which every sender has ended. Its calls
 -- since it had popped the tick popped these queues, or found them empty
 pub data Round : Type 0 where
@@ -88,7 +88,8 @@ abbrev pub places : List (ℕ × Entry) → List ℕ
 places popped = map (λ (x : ℕ × Entry). x.0) popped
 
 -- since a tick was popped, before which these earlier items had been taken, the newest of these calls at this place
--- found its queue empty, with just what was popped of it until then; or as many items were popped of it as it may hold
+-- found its queue empty, with just what was popped from it until then; or as many items were popped from it as it may
+-- hold
 abbrev pub IsBehind : (capacity : ℕ) → (earlier drained : List (ℕ × Entry)) → (calls : List Call) → (place : ℕ) → Type 0
 IsBehind capacity earlier drained calls place =
     ((is_empty_after place false calls ≡ true) × WasEmpty capacity (of place (items (earlier ++ drained)))) ⊎ (capacity ≤ length (of place (items drained)))
@@ -109,8 +110,8 @@ abbrev pub AreRounds : (capacity queues senders : ℕ) → List Round → Type 0
 AreRounds capacity queues senders [] = Unit {0}
 AreRounds capacity queues senders (round ∷ earlier) = IsRound capacity queues senders (taken_by earlier) round × AreRounds capacity queues senders earlier
 
--- What was popped of so many queues, by these calls and those before, was taken in rounds: no tick was taken before a
--- call that came behind its pop had found each other queue empty, or as many items were popped of it since as it may
+-- What was popped from the queues, by these calls and those before, was taken in rounds: no tick was taken before a
+-- call that came behind its pop had found each other queue empty, or as many items were popped from it since as it may
 -- hold, unless every sender had ended with the item behind the tick.
 pub record TicksWait (capacity queues senders : ℕ) (popped : List (ℕ × Entry)) (calls : List Call) : Type 0 where
   pub rounds : List Round
@@ -125,7 +126,7 @@ pub record TicksWait (capacity queues senders : ℕ) (popped : List (ℕ × Entr
 -- limiter's answers to the decisions at it, and ended with this shard, receiver and sender; the limiter went from one
 -- state to the other.
 pub record ShardWorks {L : Type 0} (asks : L → ℕ → ℕ → ℕ → Bool → L → Type 0) (capacity number : ℕ) (s : Settings) (shard : Held) (receiver : ReceiverState Item) (sender : EndState Shipment) (before after : TallyState) (first last : L) (popped : List (ℕ × Entry)) : Type 0 where
-  -- they are what was popped of each sender's queue, in order
+  -- they are what was popped from each sender's queue, in order
   pub of_queues : IsMergeOf receiver.ends (items popped)
   -- each tick waited for what its other queues held when it was popped; a queue may hold `capacity` items
   pub ticks_wait : TicksWait capacity (length receiver.ends) s.senders popped receiver.calls

@@ -27,6 +27,7 @@ use std::time::Clock;
 pub fn is_taken(item: &Item) -> bool
     ensures { result ≡ has_ids item.now }
 {
+    // Nothing is known of what comes out of a queue before its ends are joined, so ids are looked at here (D-144).
     match item {
         Item::Span(arrival) => arrival.rec.span.get().ids.is_some(),
         Item::Tick(_) | Item::End(_) => true,
@@ -55,16 +56,16 @@ pub fn take_item<
     requires ids { has_ids item ≡ true }
     requires nodes { knows (RateLimits.has_node turns.old.limiter) (limiters (meaning turns.old.shard.policies)) ≡ true }
     ensures takes { (first : _) (before : TallyState) (earlier : List (ℕ × Entry)) (past : List Call) (place : ℕ) → receiver.old.next ≡ place + 1 → receiver.old.calls ≡ past ++ Call.Popped place ∷ []
-        → HoldsBack RateLimits.asks first (settings turns.old.shard) receiver.old.ends before turns.old.shard turns.old.sender.items turns.old.tally turns.old.limiter earlier place item
+        → HoldsBack RateLimits.asks first (settings turns.old.shard) receiver.old.ends before turns.old.shard turns.old.desk.sender.items turns.old.desk.tally turns.old.limiter earlier place item
         → (round : Round) × IsRound QueueRoom.capacity (length receiver.old.ends) (settings turns.old.shard).senders earlier round
         × (receiver.new.calls ≡ past ++ calls_in round)
-        × HasTaken RateLimits.asks first (settings turns.old.shard) receiver.new.ends before turns.new.shard turns.new.sender.items turns.new.tally turns.new.limiter (earlier ++ taken_in round) }
+        × HasTaken RateLimits.asks first (settings turns.old.shard) receiver.new.ends before turns.new.shard turns.new.desk.sender.items turns.new.desk.tally turns.new.limiter (earlier ++ taken_in round) }
     ensures nothing_due { has_due turns.new.shard ≡ false }
     ensures finished { result ≡ is_finished turns.new.shard }
     ensures settings { settings turns.new.shard ≡ settings turns.old.shard }
     ensures nodes { knows (RateLimits.has_node turns.new.limiter) (limiters (meaning turns.new.shard.policies)) ≡ true }
     ensures keeps { (node : ℕ) → RateLimits.has_node turns.new.limiter node ≡ RateLimits.has_node turns.old.limiter node }
-    ensures same { (turns.new.number ≡ turns.old.number) × (turns.new.sender.queue ≡ turns.old.sender.queue) }
+    ensures same { (turns.new.number ≡ turns.old.number) × (turns.new.desk.sender.queue ≡ turns.old.desk.sender.queue) }
     ensures same_queues { queues receiver.new.ends ≡ queues receiver.old.ends }
 {
     match item {
@@ -95,23 +96,25 @@ fn take_tick<
     requires running { is_finished turns.old.shard ≡ false }
     requires nodes { knows (RateLimits.has_node turns.old.limiter) (limiters (meaning turns.old.shard.policies)) ≡ true }
     ensures takes { (first : _) (before : TallyState) (earlier : List (ℕ × Entry)) (past : List Call) (place : ℕ) → receiver.old.next ≡ place + 1 → receiver.old.calls ≡ past ++ Call.Popped place ∷ []
-        → HoldsBack RateLimits.asks first (settings turns.old.shard) receiver.old.ends before turns.old.shard turns.old.sender.items turns.old.tally turns.old.limiter earlier place (Item.Tick moment)
+        → HoldsBack RateLimits.asks first (settings turns.old.shard) receiver.old.ends before turns.old.shard turns.old.desk.sender.items turns.old.desk.tally turns.old.limiter earlier place (Item.Tick moment)
         → (round : Round) × IsRound QueueRoom.capacity (length receiver.old.ends) (settings turns.old.shard).senders earlier round
         × (receiver.new.calls ≡ past ++ calls_in round)
-        × HasTaken RateLimits.asks first (settings turns.old.shard) receiver.new.ends before turns.new.shard turns.new.sender.items turns.new.tally turns.new.limiter (earlier ++ taken_in round) }
+        × HasTaken RateLimits.asks first (settings turns.old.shard) receiver.new.ends before turns.new.shard turns.new.desk.sender.items turns.new.desk.tally turns.new.limiter (earlier ++ taken_in round) }
     ensures nothing_due { has_due turns.new.shard ≡ false }
     ensures finished { result ≡ is_finished turns.new.shard }
     ensures settings { settings turns.new.shard ≡ settings turns.old.shard }
     ensures nodes { knows (RateLimits.has_node turns.new.limiter) (limiters (meaning turns.new.shard.policies)) ≡ true }
     ensures keeps { (node : ℕ) → RateLimits.has_node turns.new.limiter node ≡ RateLimits.has_node turns.old.limiter node }
-    ensures same { (turns.new.number ≡ turns.old.number) × (turns.new.sender.queue ≡ turns.old.sender.queue) }
+    ensures same { (turns.new.number ≡ turns.old.number) × (turns.new.desk.sender.queue ≡ turns.old.desk.sender.queue) }
     ensures same_queues { queues receiver.new.ends ≡ queues receiver.old.ends }
 {
+    // The tick is held back and not left in its queue, since only a pop tells that something waits there (D-140).
     let place = receiver.next_place() - 1;
     for other in 0..receiver.count() {
         if other == place {
             continue;
         }
+        // So what a lane pushed before the tick is decided with it. Nothing is taken behind the last End (D-140).
         if let Some(last) = drain(rt, gate, turns, receiver, other) {
             turns.turn(rt, gate, Item::Tick(moment));
             return turns.turn(rt, gate, last);
@@ -141,12 +144,12 @@ fn drain<
     requires running { is_finished turns.old.shard ≡ false }
     requires nodes { knows (RateLimits.has_node turns.old.limiter) (limiters (meaning turns.old.shard.policies)) ≡ true }
     ensures takes { (first : _) (before : TallyState) (earlier : List (ℕ × Entry)) (at : ℕ) (held : Item) → at ≢ place
-        → HoldsBack RateLimits.asks first (settings turns.old.shard) receiver.old.ends before turns.old.shard turns.old.sender.items turns.old.tally turns.old.limiter earlier at held
+        → HoldsBack RateLimits.asks first (settings turns.old.shard) receiver.old.ends before turns.old.shard turns.old.desk.sender.items turns.old.desk.tally turns.old.limiter earlier at held
         → (drained : List (ℕ × Entry)) × (calls : List Call) × IsOf place drained × AreAt place calls × MatchOption result
         (IsCalled receiver.old.calls receiver.new.calls drained calls × IsBehind QueueRoom.capacity earlier drained calls place
-        × HoldsBack RateLimits.asks first (settings turns.old.shard) receiver.new.ends before turns.new.shard turns.new.sender.items turns.new.tally turns.new.limiter (earlier ++ drained) at held)
+        × HoldsBack RateLimits.asks first (settings turns.old.shard) receiver.new.ends before turns.new.shard turns.new.desk.sender.items turns.new.desk.tally turns.new.limiter (earlier ++ drained) at held)
         (λ last. (ends : List (EndState Item)) × TakesAt QueueRoom.capacity place last ends receiver.new.ends
-        × HoldsBack RateLimits.asks first (settings turns.old.shard) ends before turns.new.shard turns.new.sender.items turns.new.tally turns.new.limiter (earlier ++ drained) at held
+        × HoldsBack RateLimits.asks first (settings turns.old.shard) ends before turns.new.shard turns.new.desk.sender.items turns.new.desk.tally turns.new.limiter (earlier ++ drained) at held
         × (between : List Call) × IsCalled receiver.old.calls between drained calls × (receiver.new.calls ≡ between ++ Call.Popped place ∷ [])) }
     ensures last { IfSome result (λ last. (has_ids last ≡ true) × (list_all (λ b. b) (ends_after last turns.new.shard.standing.ends) ≡ true)) }
     ensures nothing_due { has_due turns.new.shard ≡ false }
@@ -154,9 +157,10 @@ fn drain<
     ensures settings { settings turns.new.shard ≡ settings turns.old.shard }
     ensures nodes { knows (RateLimits.has_node turns.new.limiter) (limiters (meaning turns.new.shard.policies)) ≡ true }
     ensures keeps { (node : ℕ) → RateLimits.has_node turns.new.limiter node ≡ RateLimits.has_node turns.old.limiter node }
-    ensures same { (turns.new.number ≡ turns.old.number) × (turns.new.sender.queue ≡ turns.old.sender.queue) }
+    ensures same { (turns.new.number ≡ turns.old.number) × (turns.new.desk.sender.queue ≡ turns.old.desk.sender.queue) }
     ensures same_queues { queues receiver.new.ends ≡ queues receiver.old.ends }
 {
+    // No more than the queue may hold, so that one who goes on pushing keeps nobody waiting (D-140).
     for _ in 0..receiver.capacity() {
         let Some(item) = receiver.pop_at(rt, place) else {
             return None;

@@ -4,7 +4,7 @@ use otlp_types::{Item, Span};
 use shard_core::{Decided, Shard, Taken};
 use span_ids::Moment;
 
-/// So long lies between two tellings of what a shard holds at least, in milliseconds.
+/// The least time between two tellings of what a shard holds, in milliseconds.
 const PAUSE: u64 = 500;
 
 /// Whether a shard may take memory for spans.
@@ -78,6 +78,7 @@ pub fn tell_load<C: Room, G: Gate>(
     let Some(now) = telling else {
         return told;
     };
+    // A walk over all traces that wait: for that there is a pause between two.
     let (traces, spans) = shard.waiting();
     let waited = match shard.oldest_waiting() {
         Some(opened) => now.saturating_sub(opened),

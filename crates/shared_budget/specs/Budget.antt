@@ -24,7 +24,7 @@ abbrev pub AreNewSeatsFrom : (tables : List TableId) → List LimiterNode → (s
 AreNewSeatsFrom tables nodes seats from [] = Unit {0}
 AreNewSeatsFrom tables nodes seats from (seat ∷ rest) = (seat ≡ new_seat tables nodes seats from) × AreNewSeatsFrom tables nodes seats (from + 1) rest
 
--- so many new seats, each at all these limiter nodes: the seats share a cell for each node
+-- new seats, of this number, each at all these limiter nodes: the seats share a cell for each node
 abbrev pub AreNewSeats : List LimiterNode → (seats : ℕ) → List (List Stand) → Type 0
 AreNewSeats nodes seats all = (length all ≡ seats) × ((tables : List TableId) × (length tables ≡ length nodes) × AreNewSeatsFrom tables nodes seats 0 all)
 

@@ -18,8 +18,8 @@ use std::sync::Wait;
 pub struct SharedBudget;
 
 impl SharedBudget {
-    /// So many seats at each limiter node of the policies, before any asking. All memory is reserved here: `Err` where
-    /// some of it was refused. Each seat holds the handle by which it waits.
+    /// This number of seats at each limiter node of the policies, before any asking. All memory is reserved here: `Err`
+    /// where some of it was refused. Each seat holds the handle by which it waits.
     pub fn new<'r, R: Wait>(
         rt: &'r R,
         alloc: Global,
@@ -56,7 +56,7 @@ impl SharedBudget {
     }
 }
 
-// So many seats at no node.
+// Seats at no node, of this number.
 fn unseated<'r, R: Wait>(
     rt: &'r R,
     alloc: Global,

@@ -55,7 +55,7 @@ pub record ExporterWorks (old new : ExporterState) (receiver : ReceiverState Shi
   -- what the calls did
   pub leads : CallsLead old (calls_of calls) new
   pub no_notes : AllByRecursion (λ (x : ℕ × ExporterCall). NotesNothing x.1) calls
-  -- what they pulled is what was popped of each shard's queue, in order
+  -- what they pulled is what was popped from each shard's queue, in order
   pub of_queues : IsMergeOf receiver.ends (shipments_in calls)
   -- every shard's End is among that
   pub ended : (shard : ℕ) → shard < length old.ends → has_ended (shipments_in calls) shard ≡ true

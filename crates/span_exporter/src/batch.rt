@@ -85,6 +85,7 @@ impl Batch {
     {
         let alloc = *self.spans.allocator();
         let line = line_of(alloc, self.spans.as_mut_slice());
+        // The spans were moved out, also where memory was refused; such a batch is given up (D-016).
         self.drain();
         line
     }

@@ -270,7 +270,7 @@ abbrev pub percent_among : (name : List ℕ) → Items → Option ℕ
 percent_among name no_items = None
 percent_among name (item value rest) = first_percent (percent_by name value) (percent_among name rest)
 
--- a percentage of the total, rounded down, or one of so many equal shares
+-- a percentage of the total, rounded down, or one of `count` equal shares
 abbrev pub share_limit : (total count : ℕ) → (percent : Option ℕ) → ℕ
 share_limit total count None = total / max count 1
 share_limit total count (Some percent) = total * percent / 100
@@ -284,7 +284,7 @@ beside (first ∷ rest) = []
 abbrev pub limiter_beside : (limit : ℕ) → (name : List ℕ) → Policy
 limiter_beside limit name = record { name = beside name; kind = kind_is.Limiting (Spans limit) }
 
--- a part, one of so many, within its share of the total in spans per second
+-- a part, one of `count`, within its share of the total in spans per second
 abbrev pub within_share : (total count : ℕ) → (allocations : Items) → Policy → Policy
 within_share total count allocations part =
     record { name = part.name; kind = kind_is.Joined join_is.Share (part ∷ limiter_beside (share_limit total count (percent_among part.name allocations)) part.name ∷ []) }

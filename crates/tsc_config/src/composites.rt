@@ -51,7 +51,7 @@ fn shares_of(
     Ok(list)
 }
 
-/// A part, one of so many, within its share of the total in spans per second.
+/// A part, one of `count`, within its share of the total in spans per second.
 fn within_share(
     alloc: Global,
     total: u64,
@@ -62,6 +62,7 @@ fn within_share(
     ensures { IfOk result (λ share. share ≡ spec.within_share total count (items_view allocations.now) part.now) }
 {
     let percent = percent_among(part.name.as_str(), allocations);
+    // The total is no limiter: a share is at most 100 percent of it (D-036).
     let limiter = Policy {
         name: beside(alloc, part.name.as_str())?,
         kind: PolicyKind::Limiting(Limit::Spans {
@@ -108,6 +109,7 @@ fn percent_among(name: &str, items: &[Value]) -> Option<u64>
     ensures percent { result ≡ spec.percent_among name.now (items_view items.now) }
     ensures within { IfSome result (λ percent. percent ≤ 100) }
 {
+    // The first that names the part counts; one that names no part counts for nothing (D-037).
     for item in items {
         if let Some(percent) = percent_by(name, item) {
             return Some(percent);

@@ -179,6 +179,7 @@ fn config_of(alloc: Global, table: &Table) -> Result<Config, ConfigFault>
     if let Some(fault) = table_fault(table) {
         return Err(fault);
     }
+    // Looked at once the table has no other fault (D-216).
     if number_at(table, NumberKey::NumTraces) < number_at(table, NumberKey::Shards) {
         return Err(ConfigFault::TooFewTraces);
     }
@@ -189,6 +190,7 @@ fn config_of(alloc: Global, table: &Table) -> Result<Config, ConfigFault>
         Ok(policies) => policies,
         Err(fault) => return Err(ConfigFault::Policy(fault)),
     };
+    // Last, so that all other faults of the text go first (D-211).
     check_expressions(alloc, &policies)?;
     match given_by(alloc, table, policies) {
         Ok(config) => Ok(config),

@@ -38,6 +38,7 @@ fn check_all(alloc: Global, expressions: &[PolicyExpression]) -> Result<(), Conf
     for expression in expressions {
         match check(alloc, expression) {
             Ok(()) => {}
+            // A later text may be no expression, and that fault goes first (D-211).
             Err(ExpressionFault::TooBig) => is_big = true,
             Err(ExpressionFault::NotAnExpression) => return Err(ConfigFault::NotAnExpression),
             Err(ExpressionFault::NoMemory) => return Err(ConfigFault::NoMemory),

@@ -31,6 +31,7 @@ fn bytes_limit(settings: &Table) -> Limit
     ensures { result ≡ spec.bytes_limit (table_view settings.now) }
 {
     let per_second = natural_at(settings, "bytes_per_second");
+    // Only where none is set: a `burst_capacity` of 0 is taken as it stands (D-213).
     let twice = per_second.saturating_mul(2).min(9_223_372_036_854_775_807);
     Limit::Bytes {
         per_second,
@@ -113,6 +114,7 @@ fn text_wanted(alloc: Global, settings: &Table) -> Result<Wanted, AllocError>
 fn error_mode_at(settings: &Table) -> ErrorMode
     ensures { result ≡ spec.error_mode_of (get_member (codes "error_mode") (table_view settings.now)) }
 {
+    // `ignore` where none is set; the processor's documentation sets one in each example (D-346).
     match member(settings, "error_mode") {
         Some(Value::String(text)) => match text.as_str() {
             "silent" => ErrorMode::Silent,
@@ -138,6 +140,7 @@ fn salt_at(alloc: Global, settings: &Table) -> Result<Text, AllocError>
     ensures { IfOk result (λ salt. salt ≡ spec.salt_by (spec.text_of (get_member (codes "hash_salt") (table_view settings.now)))) }
 {
     let salt = text_at(alloc, settings, "hash_salt")?;
+    // An empty salt is the default one, as in the processor (D-043).
     if salt.as_str().is_empty() {
         Text::from_str(alloc, "default-hash-seed")
     } else {
@@ -247,6 +250,7 @@ pub fn number_at(table: &Table, key: NumberKey) -> u64
     ensures lowest { (number_row key).lowest ≤ result }
     ensures greatest { result ≤ (number_row key).greatest }
 {
+    // Out of bounds it reads as its default, so the bounds hold of every configuration; the table is refused (D-214).
     let (name, default, lowest, greatest) = key.row();
     match member(table, name) {
         Some(Value::Integer(number)) if lowest <= *number && *number <= greatest => *number as u64,

@@ -111,6 +111,7 @@ pub fn policies_at(alloc: Global, table: &Table) -> Result<Vec<Policy>, AllocErr
     }
     let mut list = Vec::new(alloc);
     list.push(Policy {
+        // One policy made of the others, so that no crate above has a setting more (D-035).
         name: Text::from_str(alloc, "")?,
         kind: PolicyKind::Joined {
             join: Join::FirstMatch,
@@ -235,6 +236,7 @@ fn kind_typed(
 ) -> Result<PolicyKind, AllocError>
     ensures { IfOk result (λ found. found ≡ spec.kind_typed kind (table_view table.now) nested) }
 {
+    // What is given for a table with a fault is never used: it is refused.
     match kind {
         None => Ok(PolicyKind::Leaf(Leaf::AlwaysSample)),
         Some(PolicyType::And) => Ok(PolicyKind::Joined {

@@ -1,20 +1,21 @@
-use Rattle.http_lane.specs.Intake.{intake, Counts}
+use Rattle.http_lane.specs.Intake.{intake}
+use Rattle.lane_seq.specs.Counting.{Counts}
 use Rattle.std.proofs.Common.{refl, subst, sym, []}
 use Rattle.http_lane.specs.Connection.{submitted}
 use Rattle.http_lane.proofs.EventLemmas.{can_text, counted_text, Appends-none}
 use Rattle.http_lane.proofs.serving.submit.Goals as goal
 
-pub returns-then-not-count : goal.returns-then-not-count
-returns-then-not-count g c = λ limit is_packed body is.
+pub returns-then-not-count_reply : goal.returns-then-not-count_reply
+returns-then-not-count_reply g c = λ limit is_packed body is.
     let reply = c.submit-reply.result in
     let cause = submitted c.args.text.now c.now.result reply c.args.says_close in
     let took = c.submit-reply.ensures in
-    let counts = c.if-not-count.ensures.counts in
-    let new = intake c.submit-reply.new.self c.submit-reply.new.conn (g.Ledger.Counter.counted c.count.new.counts) in (
+    let counts = c.if-not-count_reply.ensures.counts in
+    let new = intake c.submit-reply.new.self c.submit-reply.new.conn (g.Ledger.Counter.counted c.count_reply.new.counts) in (
       cause,
       (body, refl, is, refl),
       record {
-        can = c.if-not-count.ensures.spans refl;
+        can = c.if-not-count_reply.ensures.spans refl;
         closes = refl;
         puts = ([], Appends-none (g.Writer.Write.contents c.args.writer.now), refl);
         lane = (
@@ -30,7 +31,7 @@ returns g c = λ limit is_packed body is.
     let reply = c.submit-reply.result in
     let cause = submitted c.args.text.now c.now.result reply c.args.says_close in
     let took = c.submit-reply.ensures in
-    let counts = c.if-not-count.ensures.counts in (
+    let counts = c.if-not-count_reply.ensures.counts in (
       cause,
       (body, refl, is, refl),
       record {
@@ -38,8 +39,8 @@ returns g c = λ limit is_packed body is.
         closes = refl;
         puts = c.answer.ensures.puts;
         lane = (
-          intake c.submit-reply.new.self c.submit-reply.new.conn (g.Ledger.Counter.counted c.count.new.counts),
-          record { received = took.received; lane = took.lane; ports = took.ports; bad = took.bad; refused = took.refused; counts = subst (λ t. Counts reply t (g.Ledger.Counter.counted c.args.counts.now) (g.Ledger.Counter.counted c.count.new.counts)) (sym (counted_text c.answer.result c.answer.ensures.fate)) counts },
+          intake c.submit-reply.new.self c.submit-reply.new.conn (g.Ledger.Counter.counted c.count_reply.new.counts),
+          record { received = took.received; lane = took.lane; ports = took.ports; bad = took.bad; refused = took.refused; counts = subst (λ t. Counts reply t (g.Ledger.Counter.counted c.args.counts.now) (g.Ledger.Counter.counted c.count_reply.new.counts)) (sym (counted_text c.answer.result c.answer.ensures.fate)) counts },
           refl,
         );
       },

@@ -1,4 +1,4 @@
-use Rattle.std.proofs.Common.{◌≡◌, ◌+◌, min, max, arith}
+use Rattle.std.proofs.Common.{◌+◌, arith}
 use Rattle.ottl_print.proofs.Counted.{not_joined}
 use Rattle.ottl_print.proofs.sizes.joined.Goals as goal
 

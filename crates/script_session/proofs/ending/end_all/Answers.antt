@@ -7,7 +7,8 @@ use Rattle.shard_core.specs.Held.{Held}
 use Rattle.script_run.specs.World.{ends_from, to_each}
 use Rattle.script_session.specs.Pulling.{Export, Counts, AreQuiet, HaveSettings, AreOpen, RoundsTaken, EachTakes}
 use Rattle.script_session.proofs.Several.{RoundsTaken-none, RoundsTaken-push, ends_from-next, to_each-same, ended, ended-next, ended-open, ended-all}
-use Rattle.script_session.proofs.Pulls.{goes-on, goes-on-then}
+use Rattle.script_session.proofs.Pulls.{goes-on-then}
+use Rattle.script_session.specs.Staying.{goes-on}
 use Rattle.script_session.proofs.ending.end_all.Goals as goal
 
 opened : (shards : List Held) (n m k : ℕ) → k ≡ suc m → AreQuiet (ended n k) shards → AreOpen shards

@@ -1,11 +1,11 @@
-use Rattle.std.proofs.Common.{◌≡◌, ℕ, ◌+◌, ◌<◌, ◌≤◌, List, [], ◌∷◌, Bool, true, length, drop, set, get_or, rules, ap, sym, subst, ◌∙◌, arith}
+use Rattle.std.proofs.Common.{◌≡◌, ℕ, ◌+◌, ◌<◌, ◌≤◌, List, ◌∷◌, true, length, drop, set, get_or, rules, ap, sym, subst, ◌∙◌, arith}
 use Rattle.std.proofs.lemmas.List.{drop_more, length-map, length-set}
 use Rattle.otlp_types.specs.declared.arrival.Item.{Item}
 use Rattle.lane_queue.specs.Queues.{QueueState}
 use Rattle.shard_core.specs.Held.{Held}
 use Rattle.script_session.specs.Pulling.{Export, EachTakes, AreOpen, AreQuiet, HaveSettings, has_all_nodes, items_in}
-use Rattle.script_session.proofs.From.{at-place, others-stay, drop-changed, stay-before, none-left}
-use Rattle.script_session.proofs.Nodes.{first_has_nodes, others_have_nodes, all_have_nodes}
+use Rattle.script_session.proofs.From.{others-stay, drop-changed, none-left}
+use Rattle.script_session.proofs.Nodes.{others_have_nodes, all_have_nodes}
 use Rattle.script_session.proofs.Several.{EachTakes-empty, EachTakes-cons}
 use Rattle.script_session.proofs.taking.+take_from.Goals as goal
 

@@ -1,12 +1,12 @@
-use Rattle.std.proofs.Common.{◌≡◌, ℕ, ◌+◌, ◌<◌, ◌≤◌, List, [], ◌∷◌, Bool, true, length, drop, set, get_or, rules, ap, sym, subst, ◌∙◌, arith}
+use Rattle.std.proofs.Common.{◌≡◌, ℕ, ◌+◌, ◌≤◌, List, [], ◌∷◌, Bool, true, length, drop, set, get_or, rules, ap, sym, subst, ◌∙◌, arith}
 use Rattle.std.proofs.lemmas.List.{drop_more, length-map, length-set}
 use Rattle.otlp_types.specs.declared.arrival.Item.{Item}
 use Rattle.shard_core.specs.Held.{Held}
 use Rattle.shard_core.specs.Taking.{ends_after}
 use Rattle.script_run.specs.World.{to_each}
 use Rattle.script_session.specs.Signals.{item_of}
-use Rattle.script_session.specs.Pulling.{Export, EachTakes, TakesItems, AreOpen, AreQuiet, HaveSettings, has_all_nodes, StayBefore}
-use Rattle.script_session.proofs.From.{at-place, others-stay, drop-changed, stay-before, none-left}
+use Rattle.script_session.specs.Pulling.{Export, EachTakes, TakesItems, AreOpen, AreQuiet, HaveSettings, has_all_nodes}
+use Rattle.script_session.proofs.From.{at-place, others-stay, drop-changed, none-left}
 use Rattle.script_session.proofs.Nodes.{others_have_nodes, all_have_nodes}
 use Rattle.script_session.proofs.Several.{EachTakes-empty, EachTakes-cons, AreQuiet-cons}
 use Rattle.script_session.proofs.taking.+tell_from.Goals as goal

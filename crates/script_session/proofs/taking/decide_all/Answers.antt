@@ -1,4 +1,9 @@
-use Rattle.std.proofs.Common.{refl, inl, inr}
+use Rattle.std.proofs.Common.{inl, inr, sym, subst}
+use Rattle.rate_budget.specs.Budget.{AsksBudgets}
+use Rattle.shard_core.specs.Held.{settings}
+use Rattle.shard_core.specs.Taking.{Decides}
+use Rattle.shard_core.specs.declared.answer.Decided.{Decided}
+use Rattle.script_session.specs.Pulling.{Export, DecidesAll}
 use Rattle.script_session.proofs.Nodes.{nodes-then}
 use Rattle.script_session.proofs.Kept.{kept-first, kept-then}
 use Rattle.script_session.proofs.Decides.{DecidesSome-none, DecidesSome-push, DecidesSome-end}
@@ -14,23 +19,27 @@ pub deciding-preserved : goal.deciding-preserved
 deciding-preserved g c =
     let before = c.deciding.invariant in
     let step = c.decide-decided.ensures in
+    let settled = c.settle_decided.ensures in
     record {
       decided = λ e past none stands is.
-          DecidesSome-push _ e past c.deciding.shard c.decide-decided.new.self c.deciding.limiter c.decide-decided.new.limiter c.args.output.now c.deciding.output c.pull_decided.new.output
-          c.decide-decided.result c.in_default.not-Nothing before.kept.settings_same (before.decided e past none stands is) step.decides c.pull_decided.ensures.pulls;
-      kept = kept-then c.args.shard.now c.deciding.shard c.decide-decided.new.self c.args.limiter.now c.deciding.limiter c.decide-decided.new.limiter c.args.output.now c.deciding.output c.pull_decided.new.output
-          before.kept step.keeps step.settings step.ends c.pull_decided.ensures.goes_on;
+          DecidesSome-push _ e past c.deciding.shard c.decide-decided.new.self c.deciding.limiter c.decide-decided.new.limiter c.args.output.now c.deciding.output c.settle_decided.new.desk
+          c.decide-decided.result c.if-not-settle_decided.ensures.some before.kept.settings_same (before.decided e past none stands is) step.decides settled.takes.0;
+      kept = kept-then c.args.shard.now c.deciding.shard c.decide-decided.new.self c.args.limiter.now c.deciding.limiter c.decide-decided.new.limiter c.args.output.now c.deciding.output c.settle_decided.new.desk
+          before.kept step.keeps step.settings step.ends settled.takes.1;
     }
 
 pub deciding-smaller : goal.deciding-smaller
-deciding-smaller g c = elim c.decide-decided.ensures.fewer [ inl nothing ↦ absurd (c.in_default.not-Nothing nothing) | inr fewer ↦ fewer ]
+deciding-smaller g c = elim c.decide-decided.ensures.fewer [ inl nothing ↦ absurd (c.if-not-settle_decided.ensures.some nothing) | inr fewer ↦ fewer ]
 
-pub returns-in-Nothing-clause-decides : goal.returns-in-Nothing-clause-decides
-returns-in-Nothing-clause-decides g c = λ e past none stands is.
+pub returns-then-not-settle_decided-clause-decides : goal.returns-then-not-settle_decided-clause-decides
+returns-then-not-settle_decided-clause-decides g c = λ e past none stands is.
     let before = c.deciding.invariant in
-    let last = c.in-Nothing.ensures in
-    DecidesSome-end _ e past c.deciding.shard c.decide-decided.new.self c.deciding.limiter c.decide-decided.new.limiter c.args.output.now c.deciding.output
-    before.kept.settings_same (before.decided e past none stands is) last.decides (last.unchanged refl) (last.all_dealt refl)
+    let last = c.decide-decided.ensures in
+    let nothing = c.if-not-settle_decided.ensures.some in
+    let D = λ (answer : Decided). Decides AsksBudgets c.deciding.shard c.decide-decided.new.self answer c.deciding.limiter c.decide-decided.new.limiter in
+    let P = λ (export : Export). DecidesAll (settings c.args.shard.now) e past c.args.output.now c.decide-decided.new.self c.decide-decided.new.limiter export in
+    subst P (sym nothing.1) (DecidesSome-end _ e past c.deciding.shard c.decide-decided.new.self c.deciding.limiter c.decide-decided.new.limiter c.args.output.now c.deciding.output
+    before.kept.settings_same (before.decided e past none stands is) (subst D nothing.0 last.decides) (last.unchanged nothing.0) (last.all_dealt nothing.0))
 
-pub returns-in-Nothing-clause-nodes : goal.returns-in-Nothing-clause-nodes
-returns-in-Nothing-clause-nodes g c = nodes-then c.args.limiter.now c.deciding.limiter c.decide-decided.new.limiter c.deciding.invariant.kept.same_nodes c.in-Nothing.ensures.keeps
+pub returns-then-not-settle_decided-clause-nodes : goal.returns-then-not-settle_decided-clause-nodes
+returns-then-not-settle_decided-clause-nodes g c = nodes-then c.args.limiter.now c.deciding.limiter c.decide-decided.new.limiter c.deciding.invariant.kept.same_nodes c.decide-decided.ensures.keeps

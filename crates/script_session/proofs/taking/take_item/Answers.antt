@@ -17,12 +17,12 @@ returns-clause-takes g c = record {
       let taken = c.take-taken.result in
       let told = c.take-taken.ensures in
       let e = entry c.args.item taken in
-      let between : Export = c.pull_taken.new.output in
+      let between : Export = c.settle_taken.new.desk in
       let after : Export = c.decide_all.new.output in
       let L = λ (s : Settings). c.args.limiter.now ≡ limiter_counts s.policies past.askings in
       let P = λ (s : Settings). DecidesAll s e past between c.decide_all.new.shard c.decide_all.new.limiter after in
       takes-one c.args.shard.now c.take-taken.new.self c.decide_all.new.shard c.args.limiter.now c.decide_all.new.limiter past c.args.item taken c.args.output.now between after
       (told.marks past.journal all.dealt all.stands) told.settings c.decide_all.ensures.settings has
-      (told.released past.journal all.dealt all.stands) (λ reason. told.dropped past.journal all.dealt reason all.stands) c.pull_taken.ensures.pulls
+      (told.released past.journal all.dealt all.stands) (λ reason. told.dropped past.journal all.dealt reason all.stands) c.settle_taken.ensures.takes.0
       (subst P told.settings (c.decide_all.ensures.decides e past refl (told.stands past.journal all.dealt all.stands) (subst L (sym told.settings) has.limiter_is)));
 }

@@ -29,7 +29,7 @@ loop-init g c = (
     at_none c.args.place,
     called_none c.args.receiver.now.calls,
     refl,
-    subst (λ l. HoldsBack g.RateLimits.Limiter.asks first (settings c.args.turns.now.shard) c.args.receiver.now.ends before c.args.turns.now.shard c.args.turns.now.sender.items c.args.turns.now.tally c.args.turns.now.limiter l at held) (sym (append-nil earlier)) holds,
+    subst (λ l. HoldsBack g.RateLimits.Limiter.asks first (settings c.args.turns.now.shard) c.args.receiver.now.ends before c.args.turns.now.shard c.args.turns.now.desk.sender.items c.args.turns.now.desk.tally c.args.turns.now.limiter l at held) (sym (append-nil earlier)) holds,
   ),
 )
 
@@ -37,7 +37,7 @@ pub returns-in_default-clause-takes : goal.returns-in_default-clause-takes
 returns-in_default-clause-takes g c = λ first before earlier at held apart holds.
     let h = c.loop.invariant.8 first before earlier at held apart holds in
     let empty = c.in_default.ensures.empty in
-    let back = subst (λ (l : List (EndState Item)). HoldsBack g.RateLimits.Limiter.asks first (settings c.args.turns.now.shard) l before c.loop.turns.shard c.loop.turns.sender.items c.loop.turns.tally c.loop.turns.limiter (earlier ++ h.0) at held) (sym empty.0) h.6 in (
+    let back = subst (λ (l : List (EndState Item)). HoldsBack g.RateLimits.Limiter.asks first (settings c.args.turns.now.shard) l before c.loop.turns.shard c.loop.turns.desk.sender.items c.loop.turns.desk.tally c.loop.turns.limiter (earlier ++ h.0) at held) (sym empty.0) h.6 in (
       h.0,
       h.1 ++ FoundEmpty c.args.place ∷ [],
       h.2,
@@ -64,7 +64,7 @@ loop-preserved-then-not-is_taken g c =
           let h = inv.8 first before earlier at held apart holds in
           let item = c.in-Some.item in
           let e : Entry = unmarked item in
-          let more = holding_skipping g.RateLimits.Limiter.asks first g.QueueRoom.Room.capacity (settings c.args.turns.now.shard) before c.args.place at item held c.loop.receiver.ends c.pop_at.new.self.ends c.loop.turns.shard c.loop.turns.sender.items c.loop.turns.tally c.loop.turns.limiter (earlier ++ h.0)
+          let more = holding_skipping g.RateLimits.Limiter.asks first g.QueueRoom.Room.capacity (settings c.args.turns.now.shard) before c.args.place at item held c.loop.receiver.ends c.pop_at.new.self.ends c.loop.turns.shard c.loop.turns.desk.sender.items c.loop.turns.desk.tally c.loop.turns.limiter (earlier ++ h.0)
           apart (sym c.is_taken.ensures ∙ c.if-not-is_taken.true) c.in-Some.ensures.first h.6 in (
             h.0 ++ (c.args.place, e) ∷ [],
             h.1 ++ Popped c.args.place ∷ [],
@@ -72,7 +72,7 @@ loop-preserved-then-not-is_taken g c =
             at_more c.args.place h.1 h.3,
             called_more c.args.receiver.now.calls c.loop.receiver.calls c.pop_at.new.self.calls h.0 h.1 c.args.place e h.4 c.in-Some.ensures.popped,
             one_longer c.args.place c.loop.counter h.0 e h.5,
-            subst (λ l. HoldsBack g.RateLimits.Limiter.asks first (settings c.args.turns.now.shard) c.pop_at.new.self.ends before c.loop.turns.shard c.loop.turns.sender.items c.loop.turns.tally c.loop.turns.limiter l at held) (append_assoc earlier h.0 ((c.args.place, e) ∷ [])) more,
+            subst (λ l. HoldsBack g.RateLimits.Limiter.asks first (settings c.args.turns.now.shard) c.pop_at.new.self.ends before c.loop.turns.shard c.loop.turns.desk.sender.items c.loop.turns.desk.tally c.loop.turns.limiter l at held) (append_assoc earlier h.0 ((c.args.place, e) ∷ [])) more,
           ),
     )
 
@@ -97,7 +97,7 @@ loop-preserved g c =
           let h = inv.8 first before earlier at held apart holds in
           let item = c.in-Some.item in
           let t = told.takes first before _ h.6.2 in
-          let more = holding_taking g.RateLimits.Limiter.asks first g.QueueRoom.Room.capacity (settings c.args.turns.now.shard) before c.args.place at item held c.loop.receiver.ends c.pop_at.new.self.ends c.loop.turns.shard c.turn.new.self.shard c.loop.turns.sender.items c.turn.new.self.sender.items c.loop.turns.tally c.turn.new.self.tally c.loop.turns.limiter c.turn.new.self.limiter (earlier ++ h.0)
+          let more = holding_taking g.RateLimits.Limiter.asks first g.QueueRoom.Room.capacity (settings c.args.turns.now.shard) before c.args.place at item held c.loop.receiver.ends c.pop_at.new.self.ends c.loop.turns.shard c.turn.new.self.shard c.loop.turns.desk.sender.items c.turn.new.self.desk.sender.items c.loop.turns.desk.tally c.turn.new.self.desk.tally c.loop.turns.limiter c.turn.new.self.limiter (earlier ++ h.0)
           apart (told.settings ∙ inv.2) (sym c.is_taken.ensures ∙ c.if-not-is_taken.false) c.in-Some.ensures.first h.6 t in (
             h.0 ++ (c.args.place, t.taken) ∷ [],
             h.1 ++ Popped c.args.place ∷ [],
@@ -105,7 +105,7 @@ loop-preserved g c =
             at_more c.args.place h.1 h.3,
             called_more c.args.receiver.now.calls c.loop.receiver.calls c.pop_at.new.self.calls h.0 h.1 c.args.place t.taken h.4 c.in-Some.ensures.popped,
             one_longer c.args.place c.loop.counter h.0 t.taken h.5,
-            subst (λ l. HoldsBack g.RateLimits.Limiter.asks first (settings c.args.turns.now.shard) c.pop_at.new.self.ends before c.turn.new.self.shard c.turn.new.self.sender.items c.turn.new.self.tally c.turn.new.self.limiter l at held) (append_assoc earlier h.0 ((c.args.place, t.taken) ∷ [])) more,
+            subst (λ l. HoldsBack g.RateLimits.Limiter.asks first (settings c.args.turns.now.shard) c.pop_at.new.self.ends before c.turn.new.self.shard c.turn.new.self.desk.sender.items c.turn.new.self.desk.tally c.turn.new.self.limiter l at held) (append_assoc earlier h.0 ((c.args.place, t.taken) ∷ [])) more,
           ),
     )
 

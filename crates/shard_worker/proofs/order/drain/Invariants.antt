@@ -15,10 +15,10 @@ use Rattle.shard_worker.proofs.order.drain.Given as goal
 
 abbrev pub invariant-loop : goal.invariant-loop
 invariant-loop g l = (has_due l.turns.shard ≡ false) × (is_finished l.turns.shard ≡ false) × (settings l.turns.shard ≡ settings l.fn.turns.shard)
-    × (l.turns.number ≡ l.fn.turns.number) × (l.turns.sender.queue ≡ l.fn.turns.sender.queue) × (queues l.receiver.ends ≡ queues l.fn.receiver.ends)
+    × (l.turns.number ≡ l.fn.turns.number) × (l.turns.desk.sender.queue ≡ l.fn.turns.desk.sender.queue) × (queues l.receiver.ends ≡ queues l.fn.receiver.ends)
     × (knows (g.RateLimits.Limiter.has_node l.turns.limiter) (limiters (meaning l.turns.shard.policies)) ≡ true)
     × ((node : ℕ) → g.RateLimits.Limiter.has_node l.turns.limiter node ≡ g.RateLimits.Limiter.has_node l.fn.turns.limiter node)
     × ((first : g.row.RateLimits.Denot) (before : TallyState) (earlier : List (ℕ × Entry)) (at : ℕ) (held : Item) → at ≢ l.place
-    → HoldsBack g.RateLimits.Limiter.asks first (settings l.fn.turns.shard) l.fn.receiver.ends before l.fn.turns.shard l.fn.turns.sender.items l.fn.turns.tally l.fn.turns.limiter earlier at held
+    → HoldsBack g.RateLimits.Limiter.asks first (settings l.fn.turns.shard) l.fn.receiver.ends before l.fn.turns.shard l.fn.turns.desk.sender.items l.fn.turns.desk.tally l.fn.turns.limiter earlier at held
     → (drained : List (ℕ × Entry)) × (calls : List Call) × IsOf l.place drained × AreAt l.place calls × IsCalled l.fn.receiver.calls l.receiver.calls drained calls × (length (of l.place (items drained)) ≡ l.counter)
-    × HoldsBack g.RateLimits.Limiter.asks first (settings l.fn.turns.shard) l.receiver.ends before l.turns.shard l.turns.sender.items l.turns.tally l.turns.limiter (earlier ++ drained) at held)
+    × HoldsBack g.RateLimits.Limiter.asks first (settings l.fn.turns.shard) l.receiver.ends before l.turns.shard l.turns.desk.sender.items l.turns.desk.tally l.turns.limiter (earlier ++ drained) at held)

@@ -28,7 +28,7 @@ loop-other-init g c = (
     refl,
     called_none c.args.receiver.now.calls,
     λ k low apart. absurd (omega (arith, low)),
-    subst (λ l. HoldsBack g.RateLimits.Limiter.asks first (settings c.args.turns.now.shard) c.args.receiver.now.ends before c.args.turns.now.shard c.args.turns.now.sender.items c.args.turns.now.tally c.args.turns.now.limiter l (c.next_place-place.result - 1) (Tick c.args.moment)) (sym (append-nil earlier)) holds,
+    subst (λ l. HoldsBack g.RateLimits.Limiter.asks first (settings c.args.turns.now.shard) c.args.receiver.now.ends before c.args.turns.now.shard c.args.turns.now.desk.sender.items c.args.turns.now.desk.tally c.args.turns.now.limiter l (c.next_place-place.result - 1) (Tick c.args.moment)) (sym (append-nil earlier)) holds,
   ),
 )
 
@@ -65,14 +65,14 @@ loop-other-preserved g c =
       λ first before earlier holds.
           let h = inv.8 first before earlier holds in
           let d = told.takes first before (earlier ++ h.0) place (Tick c.args.moment) (λ e. c.if-other-place.false (sym e))
-          (subst (λ s. HoldsBack A first s c.loop-other.receiver.ends before c.loop-other.turns.shard c.loop-other.turns.sender.items c.loop-other.turns.tally c.loop-other.turns.limiter (earlier ++ h.0) place (Tick c.args.moment)) (sym inv.2) h.5) in (
+          (subst (λ s. HoldsBack A first s c.loop-other.receiver.ends before c.loop-other.turns.shard c.loop-other.turns.desk.sender.items c.loop-other.turns.desk.tally c.loop-other.turns.limiter (earlier ++ h.0) place (Tick c.args.moment)) (sym inv.2) h.5) in (
             h.0 ++ d.0,
             h.1 ++ d.1,
             own_none place c.loop-other.other h.0 d.0 (λ e. c.if-other-place.false (sym e)) d.2 h.2,
             called_both c.args.receiver.now.calls c.loop-other.receiver.calls c.drain.new.receiver.calls h.0 d.0 h.1 d.1 h.3 d.4.0,
             behind_next g.QueueRoom.Room.capacity c.loop-other.other place earlier h.0 d.0 h.1 d.1 d.2 d.3 h.4 d.4.1,
-            subst (λ l. HoldsBack A first (settings c.args.turns.now.shard) c.drain.new.receiver.ends before c.drain.new.turns.shard c.drain.new.turns.sender.items c.drain.new.turns.tally c.drain.new.turns.limiter l place (Tick c.args.moment)) (append_assoc earlier h.0 d.0)
-                (subst (λ s. HoldsBack A first s c.drain.new.receiver.ends before c.drain.new.turns.shard c.drain.new.turns.sender.items c.drain.new.turns.tally c.drain.new.turns.limiter ((earlier ++ h.0) ++ d.0) place (Tick c.args.moment)) inv.2 d.4.2),
+            subst (λ l. HoldsBack A first (settings c.args.turns.now.shard) c.drain.new.receiver.ends before c.drain.new.turns.shard c.drain.new.turns.desk.sender.items c.drain.new.turns.desk.tally c.drain.new.turns.limiter l place (Tick c.args.moment)) (append_assoc earlier h.0 d.0)
+                (subst (λ s. HoldsBack A first s c.drain.new.receiver.ends before c.drain.new.turns.shard c.drain.new.turns.desk.sender.items c.drain.new.turns.desk.tally c.drain.new.turns.limiter ((earlier ++ h.0) ++ d.0) place (Tick c.args.moment)) inv.2 d.4.2),
           ),
     )
 
@@ -85,21 +85,21 @@ returns-in-Some-clause-takes g c = λ first before earlier past at next called h
     let s = settings c.args.turns.now.shard in
     let place = c.next_place-place.result - 1 in
     let same : at ≡ place = omega (arith, next, c.next_place-place.ensures) in
-    let h = inv.8 first before earlier (subst (λ p. HoldsBack A first s c.args.receiver.now.ends before c.args.turns.now.shard c.args.turns.now.sender.items c.args.turns.now.tally c.args.turns.now.limiter earlier p (Tick c.args.moment)) same holds) in
+    let h = inv.8 first before earlier (subst (λ p. HoldsBack A first s c.args.receiver.now.ends before c.args.turns.now.shard c.args.turns.now.desk.sender.items c.args.turns.now.desk.tally c.args.turns.now.limiter earlier p (Tick c.args.moment)) same holds) in
     let d = told.takes first before (earlier ++ h.0) place (Tick c.args.moment) (λ e. c.if-other-place.false (sym e))
-    (subst (λ z. HoldsBack A first z c.loop-other.receiver.ends before c.loop-other.turns.shard c.loop-other.turns.sender.items c.loop-other.turns.tally c.loop-other.turns.limiter (earlier ++ h.0) place (Tick c.args.moment)) (sym inv.2) h.5) in
+    (subst (λ z. HoldsBack A first z c.loop-other.receiver.ends before c.loop-other.turns.shard c.loop-other.turns.desk.sender.items c.loop-other.turns.desk.tally c.loop-other.turns.limiter (earlier ++ h.0) place (Tick c.args.moment)) (sym inv.2) h.5) in
     let popped = (earlier ++ h.0) ++ d.0 in
     let ends = d.4.0 in
-    let waits = subst (λ z. HoldsBack A first z ends before c.drain.new.turns.shard c.drain.new.turns.sender.items c.drain.new.turns.tally c.drain.new.turns.limiter popped place (Tick c.args.moment)) inv.2 d.4.2 in
+    let waits = subst (λ z. HoldsBack A first z ends before c.drain.new.turns.shard c.drain.new.turns.desk.sender.items c.drain.new.turns.desk.tally c.drain.new.turns.limiter popped place (Tick c.args.moment)) inv.2 d.4.2 in
     let t = c.turn.ensures.takes first before (journal_of popped) waits.2 in
     let is : settings c.turn.new.self.shard ≡ s = c.turn.ensures.settings ∙ told.settings ∙ inv.2 in
-    let ticked = releasing A first n s before place (Tick c.args.moment) ends c.drain.new.turns.shard c.turn.new.self.shard c.drain.new.turns.sender.items c.turn.new.self.sender.items c.drain.new.turns.tally c.turn.new.self.tally c.drain.new.turns.limiter c.turn.new.self.limiter popped is refl waits t in
-    let last = popping A first n s before c.loop-other.other c.in-Some.last ends c.drain.new.receiver.ends c.turn.new.self.shard c.turn.new.self.sender.items c.turn.new.self.tally c.turn.new.self.limiter (popped ++ (place, t.taken) ∷ []) d.4.1 ticked in
+    let ticked = releasing A first n s before place (Tick c.args.moment) ends c.drain.new.turns.shard c.turn.new.self.shard c.drain.new.turns.desk.sender.items c.turn.new.self.desk.sender.items c.drain.new.turns.desk.tally c.turn.new.self.desk.tally c.drain.new.turns.limiter c.turn.new.self.limiter popped is refl waits t in
+    let last = popping A first n s before c.loop-other.other c.in-Some.last ends c.drain.new.receiver.ends c.turn.new.self.shard c.turn.new.self.desk.sender.items c.turn.new.self.desk.tally c.turn.new.self.limiter (popped ++ (place, t.taken) ∷ []) d.4.1 ticked in
     let u = c.turn-in-Some.ensures.takes first before (journal_of (popped ++ (place, t.taken) ∷ [])) last.2 in
     let is' : settings c.turn-in-Some.new.self.shard ≡ s = c.turn-in-Some.ensures.settings ∙ is in
-    let taken = releasing A first n s before c.loop-other.other c.in-Some.last c.drain.new.receiver.ends c.turn.new.self.shard c.turn-in-Some.new.self.shard c.turn.new.self.sender.items c.turn-in-Some.new.self.sender.items c.turn.new.self.tally c.turn-in-Some.new.self.tally c.turn.new.self.limiter c.turn-in-Some.new.self.limiter (popped ++ (place, t.taken) ∷ []) is' told.last.0 last u in
+    let taken = releasing A first n s before c.loop-other.other c.in-Some.last c.drain.new.receiver.ends c.turn.new.self.shard c.turn-in-Some.new.self.shard c.turn.new.self.desk.sender.items c.turn-in-Some.new.self.desk.sender.items c.turn.new.self.desk.tally c.turn-in-Some.new.self.desk.tally c.turn.new.self.limiter c.turn-in-Some.new.self.limiter (popped ++ (place, t.taken) ∷ []) is' told.last.0 last u in
     let all = regroup_two earlier h.0 d.0 (place, t.taken) (c.loop-other.other, u.taken) in
-    let done = subst (λ l. HasTaken A first s c.drain.new.receiver.ends before c.turn-in-Some.new.self.shard c.turn-in-Some.new.self.sender.items c.turn-in-Some.new.self.tally c.turn-in-Some.new.self.limiter l) all taken in
+    let done = subst (λ l. HasTaken A first s c.drain.new.receiver.ends before c.turn-in-Some.new.self.shard c.turn-in-Some.new.self.desk.sender.items c.turn-in-Some.new.self.desk.tally c.turn-in-Some.new.self.limiter l) all taken in
     let apart : place ≢ c.loop-other.other = λ e. c.if-other-place.false (sym e) in
     let since = called_more c.args.receiver.now.calls d.4.3 c.drain.new.receiver.calls (h.0 ++ d.0) (h.1 ++ d.1) c.loop-other.other u.taken (called_both c.args.receiver.now.calls c.loop-other.receiver.calls d.4.3 h.0 d.0 h.1 d.1 h.3 d.4.4) d.4.5 in
     let finished : is_finished c.turn-in-Some.new.self.shard ≡ true =
@@ -121,11 +121,11 @@ returns-clause-takes g c = λ first before earlier past at next called holds.
     let s = settings c.args.turns.now.shard in
     let place = c.next_place-place.result - 1 in
     let same : at ≡ place = omega (arith, next, c.next_place-place.ensures) in
-    let h = inv.8 first before earlier (subst (λ p. HoldsBack A first s c.args.receiver.now.ends before c.args.turns.now.shard c.args.turns.now.sender.items c.args.turns.now.tally c.args.turns.now.limiter earlier p (Tick c.args.moment)) same holds) in
+    let h = inv.8 first before earlier (subst (λ p. HoldsBack A first s c.args.receiver.now.ends before c.args.turns.now.shard c.args.turns.now.desk.sender.items c.args.turns.now.desk.tally c.args.turns.now.limiter earlier p (Tick c.args.moment)) same holds) in
     let t = c.turn-2.ensures.takes first before (journal_of (earlier ++ h.0)) h.5.2 in
-    let taken = releasing A first n s before place (Tick c.args.moment) c.loop-other.receiver.ends c.loop-other.turns.shard c.turn-2.new.self.shard c.loop-other.turns.sender.items c.turn-2.new.self.sender.items c.loop-other.turns.tally c.turn-2.new.self.tally c.loop-other.turns.limiter c.turn-2.new.self.limiter (earlier ++ h.0) (c.turn-2.ensures.settings ∙ inv.2) refl h.5 t in (
+    let taken = releasing A first n s before place (Tick c.args.moment) c.loop-other.receiver.ends c.loop-other.turns.shard c.turn-2.new.self.shard c.loop-other.turns.desk.sender.items c.turn-2.new.self.desk.sender.items c.loop-other.turns.desk.tally c.turn-2.new.self.desk.tally c.loop-other.turns.limiter c.turn-2.new.self.limiter (earlier ++ h.0) (c.turn-2.ensures.settings ∙ inv.2) refl h.5 t in (
       behind h.0 (place, t.taken) h.1,
       ((h.2, h.3.1), λ k within apart. h.4 k (omega (arith, within, c.count-other-end.ensures, c.loop-other-test.false)) apart),
       called_since past c.args.receiver.now.calls c.loop-other.receiver.calls at place h.0 h.1 same called h.3,
-      subst (λ l. HasTaken A first s c.loop-other.receiver.ends before c.turn-2.new.self.shard c.turn-2.new.self.sender.items c.turn-2.new.self.tally c.turn-2.new.self.limiter l) (append_assoc earlier h.0 ((place, t.taken) ∷ [])) taken,
+      subst (λ l. HasTaken A first s c.loop-other.receiver.ends before c.turn-2.new.self.shard c.turn-2.new.self.desk.sender.items c.turn-2.new.self.desk.tally c.turn-2.new.self.limiter l) (append_assoc earlier h.0 ((place, t.taken) ∷ [])) taken,
     )

@@ -1,6 +1,7 @@
 use Rattle.std.proofs.Common.{[], ◌∷◌}
 use Rattle.script_session.proofs.Adds.{none-dropped}
-use Rattle.script_session.proofs.Pulls.{PullsAll-none, PullsAll-append, goes-on, goes-on-then}
+use Rattle.script_session.proofs.Pulls.{PullsAll-append, goes-on-then}
+use Rattle.script_session.specs.Staying.{PullsAll-none, goes-on}
 use Rattle.script_session.proofs.output.Output.pull_all.Goals as goal
 
 pub loop-arrival-init : goal.loop-arrival-init

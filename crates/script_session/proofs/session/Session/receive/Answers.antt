@@ -31,9 +31,9 @@ returns-clause-plays g c = λ s w are.
     let taken : Export = c.take_received.new.output in
     let rounds = rounds_of c.is_received.result after in
     let empty = ap (λ v. v.items) c.replace-queues.ensures.value ∙ self.empty ∙ ap (empty_queues self.queue_capacity) (released-length self.shards.items w.journals are.released_all) in
-    let r = receives s _ w c.args.number c.args.moment c.args.body.now self.connections later _ after reply self.shards.items c.take_received.new.shards.items self.limiter c.take_received.new.limiter self.output c.count_received.new.output c.hand_reply.new.output
+    let r = receives s _ w c.args.number c.args.moment c.args.body.now self.connections later _ after reply self.shards.items c.take_received.new.shards.items self.limiter c.take_received.new.limiter self.output c.count_reply.new.self c.hand_reply.new.output
     taken c.send.new.self self.closed rounds are empty c.submit-reply.ensures.submits
-    (λ e. ap (λ b. rounds_of b after) (c.is_received.ensures ∙ e)) (λ e. ap (λ b. rounds_of b after) (c.is_received.ensures ∙ e)) c.count_received.ensures.same c.count_received.ensures.counted c.hand_reply.ensures.written c.hand_reply.ensures.counted
+    (λ e. ap (λ b. rounds_of b after) (c.is_received.ensures ∙ e)) (λ e. ap (λ b. rounds_of b after) (c.is_received.ensures ∙ e)) c.count_reply.ensures.same c.count_reply.ensures.counted c.hand_reply.ensures.written c.hand_reply.ensures.counted
     c.hand_reply.ensures.batch c.hand_reply.ensures.goes_on.0 refl self.sent c.take_received.ensures.takes (c.take_received.ensures.settings s are.settings_are) c.send.ensures.had_room c.send.ensures.sent in
     (r.0, (sym are.closed_is ∙ c.requires.open, ap (λ (k : LineSinkState). k.is_down) (sym are.sink_is) ∙ c.requires.up, r.1), r.2)
 

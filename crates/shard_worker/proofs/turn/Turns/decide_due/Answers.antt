@@ -17,7 +17,7 @@ returns-then-not-settle_decided g c =
     let inv = c.loop.invariant in
     let told = c.decide_with_decider-decided.ensures in
     let settled = c.settle_decided.ensures in
-    let none = c.if-not-settle_decided.ensures.some in
+    let none = c.if-not-settle_decided.ensures.some.0 in
     let A = g.L.Limiter.asks in
     let t = c.loop.self.limiter in
     let u = c.decide_with_decider-decided.new.limiter in
@@ -26,10 +26,10 @@ returns-then-not-settle_decided g c =
       done = λ first before e past dealt at.
           let now = inv.6 first before e past dealt at in
           let P : Journal = record e { answers = now.1 } ∷ past in
-          let here = at_decided A first t u before c.loop.self.shard c.decide_with_decider-decided.new.self c.loop.self.sender.items c.settle_decided.new.sender.items c.loop.self.tally c.settle_decided.new.tally e past now.1 now.0 c.decide_with_decider-decided.result.0 now.2
-          decides told.settings (ap (λ x. x.items) settled.shipped) settled.counted in (
+          let here = at_decided A first t u before c.loop.self.shard c.decide_with_decider-decided.new.self c.loop.self.desk.sender.items c.settle_decided.new.desk.sender.items c.loop.self.desk.tally c.settle_decided.new.desk.tally e past now.1 now.0 c.decide_with_decider-decided.result.0 now.2
+          decides told.settings (ap (λ x. x.items) settled.takes.0) settled.takes.1 in (
             now.1,
-            done_decided A first u before c.loop.self.shard c.decide_with_decider-decided.new.self c.settle_decided.new.sender.items c.settle_decided.new.tally e past now.1 decides.0 now.0 c.decide_with_decider-decided.result.0 none told.settings
+            done_decided A first u before c.loop.self.shard c.decide_with_decider-decided.new.self c.settle_decided.new.desk.sender.items c.settle_decided.new.desk.tally e past now.1 decides.0 now.0 c.decide_with_decider-decided.result.0 none told.settings
                 (told.all_dealt none P now.0 now.2.stands) (told.answered none P now.0 now.2.stands) here,
           );
       nothing_due = told.nothing none;
@@ -38,7 +38,7 @@ returns-then-not-settle_decided g c =
       settings = told.settings ∙ inv.1;
       nodes = knows_kept (g.L.Limiter.has_node t) (g.L.Limiter.has_node u) c.loop.self.shard.policies c.decide_with_decider-decided.new.self.policies told.keeps told.policies inv.4;
       keeps = λ node. told.keeps node ∙ inv.5 node;
-      same = (inv.2, ap (λ x. x.queue) settled.shipped ∙ inv.3);
+      same = (inv.2, ap (λ x. x.queue) settled.takes.0 ∙ inv.3);
     }
 
 pub decide_with_decider-decided-requires : goal.decide_with_decider-decided-requires
@@ -56,14 +56,14 @@ loop-preserved g c =
       told.ends ∙ inv.0,
       told.settings ∙ inv.1,
       inv.2,
-      ap (λ x. x.queue) settled.shipped ∙ inv.3,
+      ap (λ x. x.queue) settled.takes.0 ∙ inv.3,
       knows_kept (g.L.Limiter.has_node t) (g.L.Limiter.has_node u) c.loop.self.shard.policies c.decide_with_decider-decided.new.self.policies told.keeps told.policies inv.4,
       λ node. told.keeps node ∙ inv.5 node,
       λ first before e past dealt at.
           let now = inv.6 first before e past dealt at in (
             dealt_after c.decide_with_decider-decided.result.0 now.0,
             given_after c.decide_with_decider-decided.result.0 now.1 decides.0,
-            at_decided A first t u before c.loop.self.shard c.decide_with_decider-decided.new.self c.loop.self.sender.items c.settle_decided.new.sender.items c.loop.self.tally c.settle_decided.new.tally e past now.1 now.0 c.decide_with_decider-decided.result.0 now.2
-                decides told.settings (ap (λ x. x.items) settled.shipped) settled.counted,
+            at_decided A first t u before c.loop.self.shard c.decide_with_decider-decided.new.self c.loop.self.desk.sender.items c.settle_decided.new.desk.sender.items c.loop.self.desk.tally c.settle_decided.new.desk.tally e past now.1 now.0 c.decide_with_decider-decided.result.0 now.2
+                decides told.settings (ap (λ x. x.items) settled.takes.0) settled.takes.1,
           ),
     )

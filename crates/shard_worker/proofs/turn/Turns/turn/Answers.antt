@@ -17,8 +17,8 @@ returns-clause-takes g c = λ first before past h.
     let answer = c.take-taken.result in
     let told = c.take-taken.ensures in
     let settled = c.settle_taken-finished.ensures in
-    let at = at_taken g.L.Limiter.asks first c.args.self.now.limiter before c.args.self.now.shard c.take-taken.new.self c.args.self.now.sender.items c.settle_taken-finished.new.sender.items c.args.self.now.tally c.settle_taken-finished.new.tally past h.dealt c.args.item answer h.at
-    (told.stands past h.dealt h.at.stands) told.settings (told.released past h.dealt h.at.stands) (λ reason. told.dropped past h.dealt reason h.at.stands) (ap (λ s. s.items) settled.shipped) settled.counted in
+    let at = at_taken g.L.Limiter.asks first c.args.self.now.limiter before c.args.self.now.shard c.take-taken.new.self c.args.self.now.desk.sender.items c.settle_taken-finished.new.desk.sender.items c.args.self.now.desk.tally c.settle_taken-finished.new.desk.tally past h.dealt c.args.item answer h.at
+    (told.stands past h.dealt h.at.stands) told.settings (told.released past h.dealt h.at.stands) (λ reason. told.dropped past h.dealt reason h.at.stands) (ap (λ s. s.items) settled.takes.0) settled.takes.1 in
     let done = c.decide_due.ensures.done first before (entry c.args.item answer) past 0 at in
     record {
       taken = record (entry c.args.item answer) { answers = done.0 };

@@ -1,16 +1,18 @@
-//! The spans of a request, counted.
+//! The spans of a request, counted by its reply.
 ghost use Rattle.std.specs.Prelude.{◌≡◌, false, true};
-ghost use Rattle.http_lane.specs.Intake.{Counts};
-ghost use Rattle.http_lane.specs.Connection.{counts_spans};
+ghost use Rattle.lane_seq.specs.Counting.{Counts, FitsIn};
+ghost use Rattle.lane_seq.specs.Replies.{is_received};
 
+use crate::reply::Reply;
 use drop_ledger::{Count, Counter};
-use lane_seq::Reply;
 use span_ids::Reason;
 
-/// Counts the spans of a request. `false`: a count would pass 2^64-1.
-pub(crate) fn count<C: Counter>(counts: &mut C, reply: &Reply) -> bool
+/// Counts the spans of a request, and those of them that go to no shard. `false`: a count would pass 2^64-1, and nothing
+/// more was counted.
+pub fn count_reply<C: Counter>(counts: &mut C, reply: &Reply) -> bool
     ensures counts { Counts reply.now result (C.counted counts.old) (C.counted counts.new) }
-    ensures spans { result ≡ false → counts_spans reply.now ≡ true }
+    ensures fits { FitsIn reply.now result (C.counted counts.old) }
+    ensures spans { result ≡ false → is_received reply.now ≡ true }
 {
     match reply {
         Reply::Done { spans } => counts.add(Count::Received, *spans).is_ok(),
@@ -19,6 +21,7 @@ pub(crate) fn count<C: Counter>(counts: &mut C, reply: &Reply) -> bool
             invalid,
             full,
         } => {
+            // Where a later one is refused the earlier ones stay: a `Counter` has no way back (D-128).
             let Ok(()) = counts.add(Count::Received, *spans) else {
                 return false;
             };
