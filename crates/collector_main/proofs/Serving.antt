@@ -41,8 +41,8 @@ Serves-runs course config outcome read here unread (inl (printed, inl x)) = subs
 Serves-runs course config outcome read here unread (inl (printed, inr x)) =
     Serves-ran course x.1 outcome x.4
     (inl (record { config = config; is_read = read; printed = printed; here = here; failures_after = x.0; answer = x.1; sink = x.2; ran = x.3; unread = unread; outcome_is = x.4 }))
-Serves-runs course config outcome read here unread (inr (sent, inl (off, same, t, u, inl x))) = subst (λ o. Serves course o) (sym x.1) (config, read, (unread, same))
-Serves-runs course config outcome read here unread (inr (sent, inl (off, same, t, u, inr x))) =
+Serves-runs course config outcome read here unread (inr (sent, inl (off, same, (t, u, inl x)))) = subst (λ o. Serves course o) (sym x.1) (config, read, (unread, same))
+Serves-runs course config outcome read here unread (inr (sent, inl (off, same, (t, u, inr x)))) =
     Serves-ran course x.1 outcome x.4
     (inr (inl (record { config = config; is_read = read; sent = sent; here = here; sends = inl (off, same, (t, u, inr x)); unread = unread })))
 Serves-runs course config outcome read here unread (inr (sent, inr (on, inl x))) = subst (λ o. Serves course o) (sym x.1) (config, read, (unread, x.0))
@@ -59,8 +59,8 @@ filed-runs : (course : Course) (config : Config) (outcome : Outcome) (before aft
     → RanOn course outcome → RunsTo config before after outcome → Serves course outcome
 filed-runs course config outcome before after read unread same ran (inl (printed, inl x)) = subst (λ o. Serves course o) (sym x.1) (config, read, (unread, same))
 filed-runs course config outcome before after read unread same ran (inl (printed, inr x)) = Serves-ran course x.1 outcome x.4 ran
-filed-runs course config outcome before after read unread same ran (inr (sent, inl (off, stays, t, u, inl x))) = subst (λ o. Serves course o) (sym x.1) (config, read, (unread, same))
-filed-runs course config outcome before after read unread same ran (inr (sent, inl (off, stays, t, u, inr x))) = Serves-ran course x.1 outcome x.4 ran
+filed-runs course config outcome before after read unread same ran (inr (sent, inl (off, stays, (t, u, inl x)))) = subst (λ o. Serves course o) (sym x.1) (config, read, (unread, same))
+filed-runs course config outcome before after read unread same ran (inr (sent, inl (off, stays, (t, u, inr x)))) = Serves-ran course x.1 outcome x.4 ran
 filed-runs course config outcome before after read unread same ran (inr (sent, inr (on, inl x))) = subst (λ o. Serves course o) (sym x.1) (config, read, (unread, same))
 filed-runs course config outcome before after read unread same ran (inr (sent, inr (on, inr x))) = Serves-ran course x.1 outcome x.4 ran
 
