@@ -1,6 +1,6 @@
 -- The lines that a destination took of the exporter's calls, and the batches that they are of.
 -- For the contract of `workers_ran`.
-use Rattle.std.proofs.Common.{◌≡◌, ◌⊎◌, inl, inr, ℕ, ◌<◌, Bool, true, false, not, cond, List, [], ◌∷◌, ◌++◌, map, filter, flat_map, length, Ok, Err, refl, sym, ap, subst, ◌∙◌, append-nil, arith}
+use Rattle.std.proofs.Common.{◌≡◌, inl, inr, ℕ, ◌<◌, Bool, true, false, not, cond, List, [], ◌∷◌, ◌++◌, map, filter, flat_map, length, Err, refl, sym, ap, subst, ◌∙◌, append-nil, arith}
 use Rattle.std.specs.List.{AllByRecursion}
 use Rattle.std.proofs.lemmas.List.{map-append}
 use Rattle.std.proofs.lemmas.List.Elements.{filter-append}
@@ -12,8 +12,7 @@ use Rattle.span_ids.specs.declared.outcome.Reason.TheVariants.{InvalidId, QueueF
 use Rattle.journal_theory.specs.Fate.{DroppedSpan, counts}
 use Rattle.span_sink.specs.Manners.{Manner, prints_refused, prints}
 use Rattle.span_sink.specs.Hands.{Handing, is_whole, handed_lines}
-use Rattle.span_sink.specs.declared.sink.SinkFault.TheVariants.{Failed, Refused}
-use Rattle.span_exporter.specs.Batches.{records_in, IsLineOf}
+use Rattle.span_sink.specs.declared.sink.SinkFault.TheVariants.{Refused}
 use Rattle.span_exporter.specs.declared.answer.Flushed.{Flushed}
 use Rattle.span_exporter.specs.declared.answer.Flushed.TheVariants.{Handed, BatchDropped, Empty}
 use Rattle.span_exporter.specs.Calls.{ExporterCall, pulled, flushed, noted, FlushedBatch, batches_flushed, AnswersFor, CallsHand, FlushHands}
