@@ -419,7 +419,7 @@ def readme_commands(program):
 
 
 def made_by(script):
-    """What a script makes is up to date: the pages of packaging/pages.py, the tables of bench/tables.py, crates.txt by tools/uses.py."""
+    """What a script makes is up to date: the pages of packaging/pages.py, the tables of bench/tables.py, crates.txt by tools/uses.py, the status page by tools/page.py."""
     ran = subprocess.run([TOP / script, "--check"], capture_output=True, text=True, check=False)
     yield from (ran.stdout + ran.stderr).splitlines()
 
@@ -429,7 +429,7 @@ def main():
     known = {it: Crate(it) for it in CRATES}
     words, names = everything()
     checks = [in_proved(known), crates_in_order(), kit_is_named(), numbers_are_told(), readme_configuration(), shown_commands(program), reached(), readers_ways(), readmes()]
-    checks += [made_by(it) for it in ("packaging/pages.py", "bench/tables.py", "tools/uses.py")]
+    checks += [made_by(it) for it in ("packaging/pages.py", "bench/tables.py", "tools/uses.py", "tools/page.py")]
     checks += [in_page(it, words, names) for it in PARTS]
     checks += [check(it) for it in PAGES for check in (links, lengths, widths)]
     checks += [readme_commands(program)] if program else []

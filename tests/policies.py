@@ -61,6 +61,12 @@ def latencies(folder):
     settings = "threshold_ms = 3, upper_threshold_ms = 4"
     spans = [(span(1, 5_000_000, 6_000_000), None), (span(2, 7_000_000, 9_999_999), None)]
     one_run(folder, "latency of two spans", [("latency", settings)], spans, True)
+    # The Collector compares after each span, and so samples this one at its first span; and it passes a start of 0 over.
+    settings = "threshold_ms = 500, upper_threshold_ms = 1000"
+    spans = [(span(1, 10**9, 10**9 + 600_000_000), None), (span(2, 10**9, 3 * 10**9), None)]
+    one_run(folder, "latency above the upper threshold by the second span", [("latency", settings)], spans, False)
+    spans = [(span(1, 0, 10**9), None), (span(2, 6 * 10**9, 6 * 10**9 + 1_000_000), None)]
+    one_run(folder, "latency from a start that isn't set", [("latency", "threshold_ms = 5000")], spans, True)
 
 
 def times_at_the_top(folder):
@@ -129,12 +135,14 @@ def attributes(folder):
         (dev, {"stringValue": "dev"}, True), (dev, {"stringValue": "Dev"}, False), (dev, {"stringValue": ""}, False),
         (dev, {"stringValue": "dev2"}, False), (digit, {"intValue": "1"}, False),
         (("numeric_attribute", "min_value = 0, max_value = 9"), {"stringValue": "1"}, False),
+        (("numeric_attribute", "min_value = 0, max_value = 9"), {"boolValue": True}, False),
     ]  # fmt: skip
     bounds = [(-1, 1, -2, False), (-1, 1, -1, True), (-1, 1, 1, True), (-1, 1, 2, False), (7, 7, 7, True)]
     bounds += [(-WHOLE_TOP - 1, WHOLE_TOP, -WHOLE_TOP - 1, True), (0, WHOLE_TOP, -WHOLE_TOP - 1, False)]
     rows += [(("numeric_attribute", f"min_value = {least}, max_value = {most}"), {"intValue": str(value)}, is_in) for least, most, value, is_in in bounds]
     truths = [("true", {"boolValue": True}, True), ("true", {"boolValue": False}, False), ("false", {"boolValue": False}, True)]
-    truths += [("false", None, False), ("true", {"intValue": "1"}, False)]
+    # The Collector reads a value of another type as false, and as the number 0.
+    truths += [("false", None, False), ("true", {"intValue": "1"}, False), ("false", {"intValue": "0"}, False), ("false", {"stringValue": "x"}, False)]
     rows += [(("boolean_attribute", f"value = {wanted}"), value, is_in) for wanted, value, is_in in truths]
     other = attribute("other", stringValue="dev")
     for row, ((kind, settings), value, is_in) in enumerate(rows):

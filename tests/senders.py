@@ -43,6 +43,16 @@ HEADS = [
     ("a path in the host", {"Host": "collector/v1"}, 400, '{"message":"bad request"}'),
 ]
 
+# What a 415 says is taken: (the settings, what the head has more, `Accept-Encoding`), by RFC 9110, 12.5.3 and 15.5.16
+TAKEN = [
+    ("", {"Content-Encoding": "gzip"}, "identity"),
+    ("", {"Content-Encoding": "zstd"}, "identity"),
+    ("accept_gzip = true\n", {"Content-Encoding": "zstd"}, "gzip, identity"),
+    ("accept_gzip = true\n", {"Content-Encoding": "gzip, gzip"}, "gzip, identity"),
+    ("accept_gzip = true\n", {"Content-Type": "text/plain"}, None),
+    ("", {"Content-Type": "text/plain", "Content-Encoding": "gzip"}, None),
+]
+
 # (name, the request line, the status, the answer's body, or None where an answer has none)
 LINES = [
     ("a probe by HEAD", "HEAD /v1/traces HTTP/1.1", 405, None),
@@ -161,6 +171,17 @@ def packed_bodies(start):
     want("the report", collector.close()[1], [taken, taken, 0, 0, 0, 0, 0, 0, 0])
 
 
+def taken_codings(start):
+    """A 415 for the coding says what is taken, and one for the media type doesn't."""
+    for settings in ("", "accept_gzip = true\n"):
+        collector = start(settings + ALL)
+        for _, more, taken in (it for it in TAKEN if it[0] == settings):
+            head = ["POST /v1/traces HTTP/1.1", *[f"{key}: {value}" for key, value in {**PLAIN, **more}.items()], f"Content-Length: {len(ONE)}"]
+            status, fields, _ = collector.ask("\r\n".join(head).encode() + b"\r\n\r\n" + ONE, True)
+            want(f"what is taken, {more}", (status, fields.get("accept-encoding")), (415, taken))
+        want("the report", collector.close()[1], [0] * 9)
+
+
 def double_bodies():
     """The body of each row of that table, with the float."""
     for text, number in DOUBLES:
@@ -191,4 +212,4 @@ def doubles_discarded(start):
     want("the spans", spans_of(lines), [{**ERROR_SPAN, "droppedAttributesCount": 1}] * len(DOUBLES))
 
 
-CHECKS = [what_senders_do, packed_bodies, doubles_kept, doubles_discarded]
+CHECKS = [what_senders_do, packed_bodies, taken_codings, doubles_kept, doubles_discarded]

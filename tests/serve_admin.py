@@ -1,11 +1,15 @@
 """Checks of `tsc serve` for those in charge of it: the second address, a full queue that is to be asked again, an output that fails, the end of the input."""
 
+import base64
+import hashlib
 import os
+import re
 import socket
 import stat
 import subprocess
 import tempfile
 import time
+from pathlib import Path
 
 from collector import ALL, ERROR_SPAN, PATIENCE, Client, Failure, asked, body_of, comes_to, free_port, get, post, scrape, spans_of, tried, want
 from serve_limits import at_most, side_by_side, spans_by_number
@@ -62,6 +66,27 @@ def in_charge(start):
     lines, report = collector.end()
     want("the spans", len(spans_of(lines)), 1)
     want("the report", report, [2, 1, 1, 0, 0, 0, 0, 0, 0])
+
+
+def the_page(start):
+    """The page in HTML is that of the repository, with its policy for browsers; nobody tells it but the second address, and it asks that alone."""
+    admin, metrics = free_port(), free_port()
+    page = Path(__file__).resolve().parent.parent.joinpath("page/status.html").read_text("utf-8")
+    hashes = [base64.b64encode(hashlib.sha256(re.search(f"<{it}>(.*?)</{it}>", page, re.DOTALL)[1].encode()).digest()).decode() for it in ("script", "style")]
+    collector = start(f'admin = "127.0.0.1:{admin}"\nmetrics = "127.0.0.1:{metrics}"\n' + ALL)
+    status, fields, body = asked(admin, get("/"))
+    want("the page", (status, body), (200, page))
+    want("its length", int(fields["content-length"]), len(page.encode()))
+    want("its type", fields["content-type"], "text/html; charset=utf-8")
+    want("what keeps it", [fields[it] for it in ("cache-control", "x-content-type-options", "referrer-policy")], ["no-store", "nosniff", "no-referrer"])
+    own = f"default-src 'none'; script-src 'sha256-{hashes[0]}'; style-src 'sha256-{hashes[1]}'; connect-src 'self'; img-src data:; "
+    want("its policy", fields["content-security-policy"], own + "base-uri 'none'; form-action 'none'; frame-ancestors 'none'")
+    want("what it asks", re.findall('data-feeds="(.*?)"', page), ["metrics"])
+    want("what it takes from elsewhere", re.findall(r"(?:src|href|action)=[\"'](?!#|data:|metrics)", page), [])
+    for port in (metrics, collector.port):
+        want(f"the page at {port}", asked(port, get("/"))[::2], (404, '{"message":"not found"}'))
+    want("the answer to /close", asked(admin, post(b"", "/close"))[0], 200)
+    want("the report", collector.end()[1], [0] * 9)
 
 
 def pages_of_other_sites(start):
@@ -166,9 +191,10 @@ def numbers_alone(start):
     foreign = "Origin: http://evil.example"
     for data in (get("/config"), get("/close"), post(b"", "/close"), post(b"", "/reopen"), get("/reopen"), post(b"", "/close", fields=[foreign]), get("/")):
         want(f"the answer to {data[:14]!r} at metrics", asked(metrics, data)[::2], (404, '{"message":"not found"}'))
-    for data in (post(b"", "/metrics"), post(b"", "/healthz", fields=[foreign]), get("/metrics", "HEAD")):
-        got = asked(metrics, data, not data.startswith(b"HEAD"))
-        want(f"the answer to {data[:14]!r} at metrics", (got[0], got[1]["allow"]), (405, "get"))
+    for data in (post(b"", "/metrics"), post(b"", "/healthz", fields=[foreign]), get("/metrics", "PUT")):
+        got = asked(metrics, data)
+        want(f"the answer to {data[:14]!r} at metrics", (got[0], got[1]["allow"]), (405, "get, head"))
+    want("HEAD at metrics", asked(metrics, get("/healthz", "HEAD"), False), asked(metrics, get("/healthz"))[:2] + ("",))
     want("the answer to /close", asked(admin, post(b"", "/close"))[::2], (200, "{}"))
     want("the report", collector.end()[1], [1, 1, 0, 0, 0, 0, 0, 0, 0])
 
@@ -251,8 +277,10 @@ def odd_questions(start):
     collector = start(f'admin = "127.0.0.1:{admin}"\n' + ALL)
     for data, status, allow in [
         (get("/close"), 405, "post"),
-        (post(b"", "/metrics"), 405, "get"),
-        (get("/metrics", "HEAD"), 405, "get"),
+        (post(b"", "/metrics"), 405, "get, head"),
+        (get("/metrics", "get"), 405, "get, head"),
+        (get("/close", "HEAD"), 405, "post"),
+        (get("/", "HEAD"), 404, None),
         (get("/"), 404, None),
         (post(body_of([ERROR_SPAN])), 404, None),
         (b"what\r\n\r\n", 400, None),
@@ -261,6 +289,9 @@ def odd_questions(start):
     ]:
         got = asked(admin, data, not data.startswith(b"HEAD"))
         want(f"the answer to {data[:20]!r}", (got[0], got[1].get("allow")), (status, allow))
+    for target in ("/config", "/healthz"):
+        want(f"HEAD {target}", asked(admin, get(target, "HEAD"), False), asked(admin, get(target))[:2] + ("",))
+    want("HEAD /metrics", asked(admin, get("/metrics", "HEAD"), False)[0], 200)
     silent = Client(admin)
     began = time.monotonic()
     want("health behind a silent one", asked(admin, get("/healthz"))[0], 200)
@@ -456,6 +487,7 @@ def input_that_fails(start):
 CHECKS = [
     in_charge,
     in_charge_by_a_socket,
+    the_page,
     pages_of_other_sites,
     told_by_shards,
     numbers_alone,

@@ -5,14 +5,14 @@ use Rattle.std.specs.Prelude.{bytes_eq, codes, if◌then◌else◌}
 use Rattle.http_text.specs.Lines.{Cut, Whole, Waits, TooLong, cut, head_len}
 use Rattle.http_text.specs.declared.request.HeadVerdict.{HeadVerdict}
 use Rattle.http_text.specs.declared.request.HeadVerdict.TheVariants.{Refused, Close as CloseThere, Post as PostThere}
-use Rattle.http_text.specs.declared.request.RequestRefusal.TheVariants.{HeadTooLarge, BadRequest, NotFound as NotFoundThere, MethodNotAllowed, Forbidden as ForbiddenThere, UnsupportedMediaType, NeitherMediaType, GzipIsOff, UnsupportedCoding, BodyTooLarge, NotGzip}
+use Rattle.http_text.specs.declared.request.RequestRefusal.TheVariants.{HeadTooLarge, BadRequest, NotFound as NotFoundThere, MethodNotAllowed, Forbidden as ForbiddenThere, UnsupportedMediaType, NeitherMediaType, GzipIsOff, UnsupportedCoding, NeitherCoding, BodyTooLarge, NotGzip}
 use Rattle.admin_http.specs.declared.asked.Method.TheVariants.{Get}
 use Rattle.admin_http.specs.declared.asked.Access.{Access}
 use Rattle.admin_http.specs.declared.asked.Access.TheVariants.{Numbers}
 use Rattle.admin_http.specs.declared.asked.Route.{Route}
 use Rattle.admin_http.specs.declared.asked.Route.TheVariants.{Metrics, Health, NotFound, WrongMethod}
 use Rattle.admin_http.specs.declared.asked.AdminRequest.{AdminRequest}
-use Rattle.admin_http.specs.Asked.{AskedAs, HeardBy, IsHeard, numbers_routed, only_by, refused_as}
+use Rattle.admin_http.specs.Asked.{AskedAs, HeardBy, IsHeard, is_by, numbers_routed, only_by, refused_as}
 use Rattle.admin_http.specs.Serving.{is_harmless}
 
 either_harmless : (t : Bool) (a b : Route) → is_harmless a ≡ true → is_harmless b ≡ true → is_harmless (if t then a else b) ≡ true
@@ -20,7 +20,7 @@ either_harmless true a b x y = x
 either_harmless false a b x y = y
 
 by_get : (method : List ℕ) (a : Route) → is_harmless a ≡ true → is_harmless (only_by Get method a) ≡ true
-by_get method a x = either_harmless (bytes_eq method (codes "GET")) a (WrongMethod Get) x refl
+by_get method a x = either_harmless (is_by Get method) a (WrongMethod Get) x refl
 
 -- of a head
 numbers_harmless : (method target : List ℕ) → is_harmless (numbers_routed method target) ≡ true
@@ -44,6 +44,7 @@ refused_harmless (Refused UnsupportedMediaType is_head) = refl
 refused_harmless (Refused NeitherMediaType is_head) = refl
 refused_harmless (Refused GzipIsOff is_head) = refl
 refused_harmless (Refused UnsupportedCoding is_head) = refl
+refused_harmless (Refused NeitherCoding is_head) = refl
 refused_harmless (Refused BodyTooLarge is_head) = refl
 refused_harmless (Refused NotGzip is_head) = refl
 refused_harmless CloseThere = refl

@@ -12,48 +12,52 @@ use Rattle.http_text.specs.Head.{verdict_by}
 use Rattle.admin_http.specs.declared.asked.Method.TheVariants.{Get, Post}
 use Rattle.admin_http.specs.declared.asked.Access.TheVariants.{Full, Numbers}
 use Rattle.admin_http.specs.declared.asked.Route.{Route}
-use Rattle.admin_http.specs.declared.asked.Route.TheVariants.{Close, Reopen, Metrics, Health, Config, Forbidden, NotFound, WrongMethod, Bad, TooLarge}
+use Rattle.admin_http.specs.declared.asked.Route.TheVariants.{Close, Reopen, Metrics, Health, Config, Page, Forbidden, NotFound, WrongMethod, Bad, TooLarge}
 use Rattle.admin_http.specs.declared.ends.TheConstants.{PIECE_LIMIT, QUIET_LIMIT, READ_LIMIT}
 use Rattle.admin_http.specs.declared.asked.AdminRequest.{AdminRequest}
 use Rattle.admin_http.specs.Asked.{asked, asked_by, numbers_routed, refused_as, routed, nothing}
 use Rattle.admin_http.specs.Serving.{closes, is_harmless, reopens}
 use Rattle.admin_http.specs.Texts.{AdminState, answer_of, state}
 
--- the five targets, each by its method
-five_targets : map (routed (codes "POST")) (codes "/close" ∷ codes "/reopen" ∷ [])
-    ++ map (routed (codes "GET")) (codes "/metrics" ∷ codes "/healthz" ∷ codes "/config" ∷ [])
-    ≡ Close ∷ Reopen ∷ Metrics ∷ Health ∷ Config ∷ []
-five_targets = refl
+-- the six targets, each by its method
+six_targets : map (routed (codes "POST")) (codes "/close" ∷ codes "/reopen" ∷ [])
+    ++ map (routed (codes "GET")) (codes "/metrics" ∷ codes "/healthz" ∷ codes "/config" ∷ codes "/" ∷ [])
+    ≡ Close ∷ Reopen ∷ Metrics ∷ Health ∷ Config ∷ Page ∷ []
+six_targets = refl
 
 -- where numbers alone may be asked for: two of them, and no other is there, by any method
-two_targets : map (numbers_routed (codes "GET")) (codes "/metrics" ∷ codes "/healthz" ∷ codes "/config" ∷ codes "/close" ∷ codes "/reopen" ∷ codes "/metrics/" ∷ [])
+two_targets : map (numbers_routed (codes "GET")) (codes "/metrics" ∷ codes "/healthz" ∷ codes "/config" ∷ codes "/close" ∷ codes "/reopen" ∷ codes "/metrics/" ∷ codes "/" ∷ [])
     ++ map (numbers_routed (codes "POST")) (codes "/metrics" ∷ codes "/healthz" ∷ codes "/config" ∷ codes "/close" ∷ codes "/reopen" ∷ [])
-    ≡ Metrics ∷ Health ∷ NotFound ∷ NotFound ∷ NotFound ∷ NotFound
+    ≡ Metrics ∷ Health ∷ NotFound ∷ NotFound ∷ NotFound ∷ NotFound ∷ NotFound
     ∷ WrongMethod Get ∷ WrongMethod Get ∷ NotFound ∷ NotFound ∷ NotFound ∷ []
 two_targets = refl
 
 -- nothing there has power, so nothing is forbidden
 numbers_asked : asked_by Numbers (codes "POST") (codes "/close") false ∷ asked_by Numbers (codes "POST") (codes "/close") true
     ∷ asked_by Numbers (codes "POST") (codes "/metrics") true ∷ asked_by Numbers (codes "GET") (codes "/metrics") true
-    ∷ asked_by Numbers (codes "HEAD") (codes "/healthz") false ∷ []
+    ∷ asked_by Numbers (codes "HEAD") (codes "/healthz") false ∷ asked_by Numbers (codes "HEAD") (codes "/config") false ∷ []
     ≡ asked NotFound false ∷ asked NotFound false
     ∷ asked (WrongMethod Get) false ∷ asked Metrics false
-    ∷ asked (WrongMethod Get) true ∷ []
+    ∷ asked Health true ∷ asked NotFound true ∷ []
 numbers_asked = refl
 
--- by another method; a method is told by its case, and `HEAD` is another method than `GET`
+-- by another method; a method is told by its case, and where `GET` is one so is `HEAD`
 other_methods : routed (codes "GET") (codes "/close") ∷ routed (codes "PUT") (codes "/reopen") ∷ routed (codes "POST") (codes "/metrics") ∷ routed (codes "PUT") (codes "/healthz") ∷ routed (codes "DELETE") (codes "/config") ∷ []
     ≡ WrongMethod Post ∷ WrongMethod Post ∷ WrongMethod Get ∷ WrongMethod Get ∷ WrongMethod Get ∷ []
 other_methods = refl
 
-near_methods : routed (codes "get") (codes "/metrics") ∷ routed (codes "GETS") (codes "/metrics") ∷ routed (codes "Post") (codes "/close") ∷ routed (codes "HEAD") (codes "/healthz") ∷ []
-    ≡ WrongMethod Get ∷ WrongMethod Get ∷ WrongMethod Post ∷ WrongMethod Get ∷ []
+near_methods : routed (codes "get") (codes "/metrics") ∷ routed (codes "GETS") (codes "/metrics") ∷ routed (codes "Post") (codes "/close") ∷ routed (codes "head") (codes "/healthz") ∷ routed (codes "HEADS") (codes "/config") ∷ []
+    ≡ WrongMethod Get ∷ WrongMethod Get ∷ WrongMethod Post ∷ WrongMethod Get ∷ WrongMethod Get ∷ []
 near_methods = refl
+
+asked_by_head : map (routed (codes "HEAD")) (codes "/metrics" ∷ codes "/healthz" ∷ codes "/config" ∷ codes "/close" ∷ codes "/reopen" ∷ codes "/other" ∷ [])
+    ≡ Metrics ∷ Health ∷ Config ∷ WrongMethod Post ∷ WrongMethod Post ∷ NotFound ∷ []
+asked_by_head = refl
 
 -- by `GET`, another target: with a query, with a slash more or less, in capitals, in absolute form, of the traces
 near_targets : map (routed (codes "GET"))
-    (codes "/metrics?x" ∷ codes "/metrics/" ∷ codes "metrics" ∷ codes "/Metrics" ∷ codes "//metrics" ∷ codes "http://x/metrics" ∷ codes "/" ∷ codes "*" ∷ codes "/health" ∷ codes "/%6detrics" ∷ [])
-    ≡ NotFound ∷ NotFound ∷ NotFound ∷ NotFound ∷ NotFound ∷ NotFound ∷ NotFound ∷ NotFound ∷ NotFound ∷ NotFound ∷ []
+    (codes "/metrics?x" ∷ codes "/metrics/" ∷ codes "metrics" ∷ codes "/Metrics" ∷ codes "//metrics" ∷ codes "http://x/metrics" ∷ codes "//" ∷ codes "" ∷ codes "/?" ∷ codes "/index.html" ∷ codes "*" ∷ codes "/health" ∷ codes "/%6detrics" ∷ [])
+    ≡ NotFound ∷ NotFound ∷ NotFound ∷ NotFound ∷ NotFound ∷ NotFound ∷ NotFound ∷ NotFound ∷ NotFound ∷ NotFound ∷ NotFound ∷ NotFound ∷ NotFound ∷ []
 near_targets = refl
 
 traces_there : routed (codes "POST") (codes "/v1/traces") ∷ routed (codes "POST") (codes "/close/") ∷ routed (codes "POST") (codes "/close?now") ∷ routed (codes "POST") (codes "/Reopen") ∷ []
@@ -62,7 +66,7 @@ traces_there = refl
 
 -- the answer to `HEAD` has no body, whatever it asks for
 heads : asked_by Full (codes "HEAD") (codes "/metrics") false ∷ asked_by Full (codes "HEAD") (codes "/other") true ∷ asked_by Full (codes "GET") (codes "/other") false ∷ []
-    ≡ asked (WrongMethod Get) true ∷ asked NotFound true ∷ asked NotFound false ∷ []
+    ≡ asked Metrics true ∷ asked NotFound true ∷ asked NotFound false ∷ []
 heads = refl
 
 -- what a page of another site may have sent: a `POST` is refused, whatever it asks for; what only tells is answered
@@ -76,12 +80,12 @@ of_another_site = refl
 
 -- which routes have power, and which are harmless: one that asks for the configuration has none, and isn't
 routes : List Route
-routes = Close ∷ Reopen ∷ Metrics ∷ Health ∷ Config ∷ Forbidden ∷ NotFound ∷ WrongMethod Get ∷ WrongMethod Post ∷ Bad ∷ TooLarge ∷ []
+routes = Close ∷ Reopen ∷ Metrics ∷ Health ∷ Config ∷ Page ∷ Forbidden ∷ NotFound ∷ WrongMethod Get ∷ WrongMethod Post ∷ Bad ∷ TooLarge ∷ []
 
 powers : map closes routes ++ (map reopens routes ++ map is_harmless routes)
-    ≡ (true ∷ false ∷ false ∷ false ∷ false ∷ false ∷ false ∷ false ∷ false ∷ false ∷ false ∷ [])
-    ++ ((false ∷ true ∷ false ∷ false ∷ false ∷ false ∷ false ∷ false ∷ false ∷ false ∷ false ∷ [])
-    ++ (false ∷ false ∷ true ∷ true ∷ false ∷ true ∷ true ∷ true ∷ true ∷ true ∷ true ∷ []))
+    ≡ (true ∷ false ∷ false ∷ false ∷ false ∷ false ∷ false ∷ false ∷ false ∷ false ∷ false ∷ false ∷ [])
+    ++ ((false ∷ true ∷ false ∷ false ∷ false ∷ false ∷ false ∷ false ∷ false ∷ false ∷ false ∷ false ∷ [])
+    ++ (false ∷ false ∷ true ∷ true ∷ false ∷ false ∷ true ∷ true ∷ true ∷ true ∷ true ∷ true ∷ []))
 unfolding routes
 powers = refl
 
@@ -127,10 +131,10 @@ part_of_head = refl
 
 -- the answers
 open_state : AdminState
-open_state = state false (codes "m 1\n") (codes "lanes = 2\n")
+open_state = state false (codes "m 1\n") (codes "lanes = 2\n") (codes "<p>xy") (codes "X-A: b\r\nX-C: d\r\n")
 
 closing_state : AdminState
-closing_state = state true (codes "m 22\n") (codes "lanes = 3\n")
+closing_state = state true (codes "m 22\n") (codes "lanes = 3\n") (codes "<p>") []
 
 answered : Route → AdminState → List ℕ
 answered route s = answer_of (asked route false) s
@@ -153,6 +157,14 @@ of_the_collector : answered Metrics open_state ∷ answered Health open_state �
 unfolding answered digits open_state closing_state
 of_the_collector = refl
 
+-- the page, with the fields that go with it; its length is that of its bytes
+the_page : answered Page open_state ∷ answered Page closing_state ∷ answer_of (asked Page true) open_state ∷ []
+    ≡ codes "HTTP/1.1 200 OK\r\nContent-Type: text/html; charset=utf-8\r\nContent-Length: 5\r\nX-A: b\r\nX-C: d\r\nConnection: close\r\n\r\n<p>xy"
+    ∷ codes "HTTP/1.1 200 OK\r\nContent-Type: text/html; charset=utf-8\r\nContent-Length: 3\r\nConnection: close\r\n\r\n<p>"
+    ∷ codes "HTTP/1.1 200 OK\r\nContent-Type: text/html; charset=utf-8\r\nContent-Length: 5\r\nX-A: b\r\nX-C: d\r\nConnection: close\r\n\r\n" ∷ []
+unfolding answered digits open_state closing_state
+the_page = refl
+
 forbidden : answered Forbidden open_state
     ≡ codes "HTTP/1.1 403 Forbidden\r\nContent-Type: application/json\r\nContent-Length: 23\r\nConnection: close\r\n\r\n{\"message\":\"forbidden\"}"
 unfolding answered digits
@@ -163,7 +175,7 @@ not_answered : answered NotFound open_state ∷ answered (WrongMethod Get) open_
     ≡ (codes "HTTP/1.1 404 Not Found\r\nContent-Type: application/json\r\nContent-Length: 23\r\n"
     ++ codes "Connection: close\r\n\r\n{\"message\":\"not found\"}")
     ∷ (codes "HTTP/1.1 405 Method Not Allowed\r\nContent-Type: application/json\r\nContent-Length: 32\r\n"
-    ++ codes "Allow: GET\r\nConnection: close\r\n\r\n{\"message\":\"method not allowed\"}")
+    ++ codes "Allow: GET, HEAD\r\nConnection: close\r\n\r\n{\"message\":\"method not allowed\"}")
     ∷ (codes "HTTP/1.1 400 Bad Request\r\nContent-Type: application/json\r\nContent-Length: 25\r\n"
     ++ codes "Connection: close\r\n\r\n{\"message\":\"bad request\"}")
     ∷ (codes "HTTP/1.1 431 Request Header Fields Too Large\r\nContent-Type: application/json\r\nContent-Length: 28\r\n"
@@ -176,6 +188,13 @@ wrong_method_of_head : answer_of (asked (WrongMethod Post) true) open_state
     ≡ codes "HTTP/1.1 405 Method Not Allowed\r\nContent-Type: application/json\r\nContent-Length: 32\r\nAllow: POST\r\nConnection: close\r\n\r\n"
 unfolding digits
 wrong_method_of_head = refl
+
+of_head : answer_of (asked Metrics true) open_state ∷ answer_of (asked Health true) closing_state ∷ answer_of (asked Config true) closing_state ∷ []
+    ≡ codes "HTTP/1.1 200 OK\r\nContent-Type: text/plain; version=0.0.4; charset=utf-8\r\nContent-Length: 4\r\nConnection: close\r\n\r\n"
+    ∷ codes "HTTP/1.1 503 Service Unavailable\r\nContent-Type: text/plain\r\nContent-Length: 8\r\nConnection: close\r\n\r\n"
+    ∷ codes "HTTP/1.1 200 OK\r\nContent-Type: application/toml\r\nContent-Length: 10\r\nConnection: close\r\n\r\n" ∷ []
+unfolding digits open_state closing_state
+of_head = refl
 
 -- how many bytes a read gives at most, how many reads are made, and how many may give nothing
 limits : PIECE_LIMIT ∷ READ_LIMIT ∷ QUIET_LIMIT ∷ [] ≡ 4096 ∷ 1024 ∷ 50 ∷ []

@@ -1,5 +1,5 @@
 -- What the head at the front of a stream asks for (RFC 9112, sections 2 to 3), by what `http_text` says of heads.
-use Rattle.std.specs.Prelude.{◌≡◌, ◌&&◌, ℕ, Bool, false, List, map, ◌++◌, Option, Some, None, take, codes, bytes_eq, if◌then◌else◌}
+use Rattle.std.specs.Prelude.{◌≡◌, ◌&&◌, ◌||◌, ℕ, Bool, false, List, map, ◌++◌, Option, Some, None, take, codes, bytes_eq, if◌then◌else◌}
 use Rattle.httparse.specs.Grammar.{RequestHead}
 use Rattle.http_text.specs.Lines.{Cut, Whole, Waits, TooLong, cut, head_len}
 use Rattle.httparse.specs.Spans.{name_and_value}
@@ -14,17 +14,17 @@ use Rattle.admin_http.specs.declared.asked.Method.TheVariants.{Get, Post}
 use Rattle.admin_http.specs.declared.asked.Access.{Access}
 use Rattle.admin_http.specs.declared.asked.Access.TheVariants.{Full, Numbers}
 use Rattle.admin_http.specs.declared.asked.Route.{Route}
-use Rattle.admin_http.specs.declared.asked.Route.TheVariants.{Close, Reopen, Metrics, Health, Config, Forbidden, NotFound, WrongMethod, Bad, TooLarge}
+use Rattle.admin_http.specs.declared.asked.Route.TheVariants.{Close, Reopen, Metrics, Health, Config, Page, Forbidden, NotFound, WrongMethod, Bad, TooLarge}
 use Rattle.admin_http.specs.declared.asked.AdminRequest.{AdminRequest}
 
--- the word of a method
-abbrev pub method_word : Method → List ℕ
-method_word Get = codes "GET"
-method_word Post = codes "POST"
+-- a method by which a target is asked; where it is `GET` it may be `HEAD` (RFC 9110, section 9.3.2)
+abbrev pub is_by : Method → (method : List ℕ) → Bool
+is_by Get method = bytes_eq method (codes "GET") || bytes_eq method (codes "HEAD")
+is_by Post method = bytes_eq method (codes "POST")
 
--- a target that has one method
+-- a target that is asked by this
 abbrev pub only_by : Method → (method : List ℕ) → Route → Route
-only_by allowed method route = if bytes_eq method (method_word allowed) then route else WrongMethod allowed
+only_by allowed method route = if is_by allowed method then route else WrongMethod allowed
 
 -- where a request for numbers or health goes, by its method and its target, byte for byte
 abbrev pub numbers_routed : (method target : List ℕ) → Route
@@ -39,7 +39,8 @@ routed method target =
     if bytes_eq target (codes "/close") then only_by Post method Close
     else (if bytes_eq target (codes "/reopen") then only_by Post method Reopen
     else (if bytes_eq target (codes "/config") then only_by Get method Config
-    else numbers_routed method target))
+    else (if bytes_eq target (codes "/") then only_by Get method Page
+    else numbers_routed method target)))
 
 -- the answer to `HEAD` has no body
 abbrev pub asked : Route → (is_head : Bool) → AdminRequest

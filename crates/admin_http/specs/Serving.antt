@@ -5,7 +5,7 @@ use Rattle.http_text.specs.Lines.{Waits, cut, head_len}
 use Rattle.admin_http.specs.declared.asked.AdminRequest.{AdminRequest}
 use Rattle.admin_http.specs.declared.asked.Access.{Access}
 use Rattle.admin_http.specs.declared.asked.Route.{Route}
-use Rattle.admin_http.specs.declared.asked.Route.TheVariants.{Close, Reopen, Metrics, Config}
+use Rattle.admin_http.specs.declared.asked.Route.TheVariants.{Close, Reopen, Metrics, Config, Page}
 use Rattle.admin_http.specs.declared.ends.AdminEnd.{AdminEnd}
 use Rattle.admin_http.specs.declared.ends.AdminEnd.TheVariants.{Heard, Unheard}
 use Rattle.admin_http.specs.declared.ends.Portion.{Portion}
@@ -15,18 +15,18 @@ use Rattle.admin_http.specs.declared.ends.Silence.TheVariants.{Cut, NoMemory}
 use Rattle.admin_http.specs.declared.ends.PieceRead.{PieceRead}
 use Rattle.admin_http.specs.declared.ends.PieceRead.TheVariants.{More, End, NoRoom}
 use Rattle.admin_http.specs.Asked.{IsHeard}
-use Rattle.admin_http.specs.Texts.{AdminState, answer_of}
+use Rattle.admin_http.specs.Texts.{AdminState, AdminTexts, answer_of}
 
--- what an answer tells of is what the collector said: whether it is closing, what its configuration is, and, where they
--- are asked for, its numbers
-pub record IsStateOf (stops : Bool → Type 0) (tells : List ℕ → Type 0) (configuration : List ℕ) (route : Route) (s : AdminState) : Type 0 where
+-- what an answer tells of is what the collector said: whether it is closing, its texts, and, where they are asked for,
+-- its numbers
+pub record IsStateOf (stops : Bool → Type 0) (tells : List ℕ → Type 0) (texts : AdminTexts) (route : Route) (s : AdminState) : Type 0 where
   pub is_stopping : stops s.is_stopping
-  pub config : s.config ≡ configuration
+  pub same : s.texts ≡ texts
   pub metrics : route ≡ Metrics → tells s.metrics
 
 -- this is the answer to a request
-abbrev pub Answers : (stops : Bool → Type 0) (tells : List ℕ → Type 0) (configuration : List ℕ) → AdminRequest → (text : List ℕ) → Type 0
-Answers stops tells configuration asked text = (s : AdminState) × IsStateOf stops tells configuration asked.route s × (text ≡ answer_of asked s)
+abbrev pub Answers : (stops : Bool → Type 0) (tells : List ℕ → Type 0) (texts : AdminTexts) → AdminRequest → (text : List ℕ) → Type 0
+Answers stops tells texts asked text = (s : AdminState) × IsStateOf stops tells texts asked.route s × (text ≡ answer_of asked s)
 
 -- what was written of a text
 abbrev pub WrittenBy : Portion → (text bytes : List ℕ) → Type 0
@@ -44,9 +44,9 @@ IsMade Nothing = ⊥
 IsMade _ = Unit {0}
 
 -- a request was answered, unless there was no memory for the answer
-abbrev pub Responds : (stops : Bool → Type 0) (tells : List ℕ → Type 0) (configuration : List ℕ) (old new : Option (List ℕ)) → AdminRequest → Portion → Type 0
-Responds stops tells configuration old new asked Nothing = new ≡ old
-Responds stops tells configuration old new asked sent = (text : List ℕ) × Answers stops tells configuration asked text × Puts old new text sent
+abbrev pub Responds : (stops : Bool → Type 0) (tells : List ℕ → Type 0) (texts : AdminTexts) (old new : Option (List ℕ)) → AdminRequest → Portion → Type 0
+Responds stops tells texts old new asked Nothing = new ≡ old
+Responds stops tells texts old new asked sent = (text : List ℕ) × Answers stops tells texts asked text × Puts old new text sent
 
 -- what one read added to what was read so far
 abbrev pub Takes : (left left_after : Option (List ℕ)) → (read read_after : List ℕ) → PieceRead → Type 0
@@ -70,13 +70,13 @@ abbrev pub Hears : Access → (left left_after : Option (List ℕ)) → Result A
 Hears access left left_after heard = (read : List ℕ) × Consumes left left_after read × HearsIn access left_after read heard
 
 -- the end of a connection in which this was read: a request was answered, or none was heard and nothing was written
-abbrev pub EndsWith : Access → (stops : Bool → Type 0) (tells : List ℕ → Type 0) (configuration : List ℕ) (left_after old new : Option (List ℕ)) → (read : List ℕ) → AdminEnd → Type 0
-EndsWith access stops tells configuration left_after old new read (Heard asked sent) = IsHeard access read (Some asked) × Responds stops tells configuration old new asked sent
-EndsWith access stops tells configuration left_after old new read (Unheard silence) = IsSilent left_after read silence × (new ≡ old)
+abbrev pub EndsWith : Access → (stops : Bool → Type 0) (tells : List ℕ → Type 0) (texts : AdminTexts) (left_after old new : Option (List ℕ)) → (read : List ℕ) → AdminEnd → Type 0
+EndsWith access stops tells texts left_after old new read (Heard asked sent) = IsHeard access read (Some asked) × Responds stops tells texts old new asked sent
+EndsWith access stops tells texts left_after old new read (Unheard silence) = IsSilent left_after read silence × (new ≡ old)
 
-abbrev pub Served : Access → (stops : Bool → Type 0) (tells : List ℕ → Type 0) (configuration : List ℕ) (left left_after old new : Option (List ℕ)) → AdminEnd → Type 0
-Served access stops tells configuration left left_after old new end =
-    (read : List ℕ) × Consumes left left_after read × EndsWith access stops tells configuration left_after old new read end
+abbrev pub Served : Access → (stops : Bool → Type 0) (tells : List ℕ → Type 0) (texts : AdminTexts) (left left_after old new : Option (List ℕ)) → AdminEnd → Type 0
+Served access stops tells texts left left_after old new end =
+    (read : List ℕ) × Consumes left left_after read × EndsWith access stops tells texts left_after old new read end
 
 -- the request asked the collector to close
 abbrev pub closes : Route → Bool
@@ -96,11 +96,12 @@ abbrev pub asked_to_reopen : AdminEnd → Bool
 asked_to_reopen (Heard asked sent) = reopens asked.route
 asked_to_reopen (Unheard silence) = false
 
--- a route that has no power, and whose answer tells nothing of the configuration
+-- a route that has no power, and whose answer tells nothing of the configuration, nor is the page that shows it
 abbrev pub is_harmless : Route → Bool
 is_harmless Close = false
 is_harmless Reopen = false
 is_harmless Config = false
+is_harmless Page = false
 is_harmless _ = true
 
 abbrev pub was_harmless : AdminEnd → Bool

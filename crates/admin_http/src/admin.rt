@@ -1,5 +1,6 @@
 //! What is asked of a collector at this address.
 ghost use Rattle.std.specs.Prelude.{◌≡◌, ℕ, List, Bool, true, IfOk, string_bytes};
+ghost use Rattle.admin_http.specs.Texts.{AdminTexts};
 
 use std::alloc::{AllocError, Global};
 
@@ -17,8 +18,8 @@ pub trait Admin {
     /// It may tell its numbers by this text.
     ghost tells: { Self → List ℕ → Type 0 };
 
-    /// The text of its configuration.
-    ghost configuration: { Self → List ℕ };
+    /// Its texts that stay.
+    ghost texts: { Self → AdminTexts };
 
     /// Asks it to close, for good: it takes no request from then on, and ends once what it holds is dealt with.
     fn close(&mut self)
@@ -38,5 +39,13 @@ pub trait Admin {
 
     /// Its configuration, in TOML.
     fn config(&self) -> &str
-        ensures { result.now ≡ configuration self.now };
+        ensures { result.now ≡ (texts self.now).config };
+
+    /// The page that shows it, in HTML.
+    fn page(&self) -> &str
+        ensures { result.now ≡ (texts self.now).page };
+
+    /// The fields of a head that go with the page, each with its line end.
+    fn page_fields(&self) -> &str
+        ensures { result.now ≡ (texts self.now).page_fields };
 }

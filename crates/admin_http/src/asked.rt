@@ -3,7 +3,7 @@
 /// The methods that a target may have (RFC 9110, section 9.3).
 #[derive(Clone, Copy, PartialEq, Eq)]
 pub enum Method {
-    /// `GET`.
+    /// `GET`, and `HEAD` with it.
     Get,
     /// `POST`.
     Post,
@@ -12,7 +12,8 @@ pub enum Method {
 /// What may be asked for at an address.
 #[derive(Clone, Copy, PartialEq, Eq)]
 pub enum Access {
-    /// Everything: that the collector closes and opens its output anew, its numbers, its health and its configuration.
+    /// Everything: that the collector closes and opens its output anew, its numbers, its health, its configuration, and
+    /// the page that shows them.
     Full,
     /// Its numbers and its health alone.
     Numbers,
@@ -31,11 +32,13 @@ pub enum Route {
     Health,
     /// `GET /config`: its configuration, as it stands.
     Config,
+    /// `GET /`: a page that shows its numbers, its health and its configuration.
+    Page,
     /// 403: a `POST` that a page of another site may have sent.
     Forbidden,
     /// 404: another target.
     NotFound,
-    /// 405: one of these targets, which has only this method.
+    /// 405: one of these targets, which is asked by this method only.
     WrongMethod(Method),
     /// 400: no head of HTTP/1.1, not one `Host`, or no one way to frame the body.
     Bad,

@@ -4,7 +4,7 @@ ghost use Rattle.httparse.specs.Grammar.{RequestHead};
 ghost use Rattle.httparse.specs.Spans.{IsRequestWithin};
 ghost use Rattle.http_text.specs.Head.{IsHead};
 ghost use Rattle.http_text.specs.Spans.{IsHeadAt};
-ghost use Rattle.admin_http.specs.Asked.{IsAsked, IsHeard, asked_by, numbers_routed, only_by, refused_as, route_by, routed};
+ghost use Rattle.admin_http.specs.Asked.{IsAsked, IsHeard, asked_by, is_by, numbers_routed, only_by, refused_as, route_by, routed};
 ghost use Rattle.http_text.specs.Fields.{is_foreign};
 ghost use Rattle.httparse.specs.Spans.{name_and_value};
 
@@ -23,15 +23,21 @@ const NOTHING: Allowed = Allowed {
     body_limit: 0,
 };
 
-/// A target that has one method.
+/// Whether a target is asked by this method, which may be `HEAD` where it is `GET`.
+fn is_by(allowed: Method, method: &[u8]) -> bool
+    ensures { result ≡ is_by allowed method.now }
+{
+    match allowed {
+        Method::Get => method == b"GET".as_slice() || method == b"HEAD".as_slice(),
+        Method::Post => method == b"POST".as_slice(),
+    }
+}
+
+/// A target that is asked by one method.
 fn only_by(allowed: Method, method: &[u8], route: Route) -> Route
     ensures { result ≡ only_by allowed method.now route }
 {
-    let is_allowed = match allowed {
-        Method::Get => method == b"GET".as_slice(),
-        Method::Post => method == b"POST".as_slice(),
-    };
-    if is_allowed {
+    if is_by(allowed, method) {
         route
     } else {
         Route::WrongMethod(allowed)
@@ -63,6 +69,9 @@ fn routed(method: &[u8], target: &[u8]) -> Route
     }
     if target == b"/config".as_slice() {
         return only_by(Method::Get, method, Route::Config);
+    }
+    if target == b"/".as_slice() {
+        return only_by(Method::Get, method, Route::Page);
     }
     numbers_routed(method, target)
 }

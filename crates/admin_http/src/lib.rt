@@ -23,6 +23,6 @@ pub use admin::Admin;
 pub use asked::{Access, AdminRequest, Method, Route};
 pub use ends::{AdminEnd, PIECE_LIMIT, Portion, QUIET_LIMIT, READ_LIMIT, Silence};
 pub use head::heard;
-pub use law::heard_in_any_pieces;
+pub use law::{head_is_get_without_body, heard_in_any_pieces};
 pub use serving::serve;
-pub use texts::answer;
+pub use texts::{Told, answer};

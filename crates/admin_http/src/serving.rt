@@ -7,7 +7,7 @@ use crate::admin::Admin;
 use crate::asked::{Access, AdminRequest, Route};
 use crate::ends::{AdminEnd, PIECE_LIMIT, PieceRead, Portion, QUIET_LIMIT, READ_LIMIT, Silence};
 use crate::head::heard;
-use crate::texts::answer;
+use crate::texts::{Told, answer};
 use std::alloc::{AllocError, Global};
 use std::io::{ErrorKind, Read, Write};
 
@@ -48,14 +48,21 @@ fn answer_from<A: Admin>(
 ) -> Result<String, AllocError>
     requires closed { closes asked.route ≡ true → A.is_closed admin.now ≡ true }
     requires reopened { reopens asked.route ≡ true → A.is_reopened admin.now ≡ true }
-    ensures { IfOk result (λ text. Answers (A.stops admin.now) (A.tells admin.now) (A.configuration admin.now) asked (string_bytes text)) }
+    ensures { IfOk result (λ text. Answers (A.stops admin.now) (A.tells admin.now) (A.texts admin.now) asked (string_bytes text)) }
 {
     let is_stopping = admin.is_stopping();
     let metrics = match asked.route {
         Route::Metrics => admin.metrics(alloc)?,
         _ => String::new(alloc),
     };
-    answer(alloc, asked, is_stopping, metrics.as_str(), admin.config())
+    let told = Told {
+        is_stopping,
+        metrics: metrics.as_str(),
+        config: admin.config(),
+        page: admin.page(),
+        page_fields: admin.page_fields(),
+    };
+    answer(alloc, asked, told)
 }
 
 /// Answers a request. Where it asks the collector to close, or to open its output anew, the collector is asked before any
@@ -66,7 +73,7 @@ fn respond<W: Write, A: Admin>(
     admin: &mut A,
     asked: AdminRequest,
 ) -> Portion
-    ensures responds { Responds (A.stops admin.new) (A.tells admin.new) (A.configuration admin.new) (W.contents writer.old) (W.contents writer.new) asked result }
+    ensures responds { Responds (A.stops admin.new) (A.tells admin.new) (A.texts admin.new) (W.contents writer.old) (W.contents writer.new) asked result }
     ensures closed { closes asked.route ≡ true → A.is_closed admin.new ≡ true }
     ensures reopened { reopens asked.route ≡ true → A.is_reopened admin.new ≡ true }
     ensures kept { closes asked.route ≡ false → reopens asked.route ≡ false → admin.new ≡ admin.old }
@@ -151,7 +158,7 @@ pub fn serve<R: Read, W: Write, A: Admin>(
     writer: &mut W,
     admin: &mut A,
 ) -> AdminEnd
-    ensures served { Served access (A.stops admin.new) (A.tells admin.new) (A.configuration admin.new)
+    ensures served { Served access (A.stops admin.new) (A.tells admin.new) (A.texts admin.new)
         (R.remaining reader.old) (R.remaining reader.new) (W.contents writer.old) (W.contents writer.new) result }
     ensures closed { asked_to_close result ≡ true → A.is_closed admin.new ≡ true }
     ensures reopened { asked_to_reopen result ≡ true → A.is_reopened admin.new ≡ true }

@@ -1,6 +1,6 @@
 //! The bytes of answers.
 ghost use Rattle.std.specs.Prelude.{◌≡◌, ℕ, List, [], Bool, IfOk, length, string_bytes, if◌then◌else◌, codes};
-ghost use Rattle.admin_http.specs.Texts.{AdminState, allow_line, answer_of, health_page, joined, page, page_of, page_text, sent_of, state};
+ghost use Rattle.admin_http.specs.Texts.{AdminState, answer_of, health_page, joined, own_fields, page, page_of, page_text, sent_of, state};
 
 use crate::asked::{AdminRequest, Method, Route};
 use std::alloc::{AllocError, Global};
@@ -14,24 +14,32 @@ struct AdminPage<'a> {
     body: &'a str,
 }
 
-/// The answer to a request, from what it may tell of: whether the collector is closing, the text of its numbers and
-/// that of its configuration.
-pub fn answer(
-    alloc: Global,
-    asked: AdminRequest,
-    is_stopping: bool,
-    metrics: &str,
-    config: &str,
-) -> Result<String, AllocError>
-    ensures { IfOk result (λ text. string_bytes text ≡ answer_of asked (state is_stopping metrics.now config.now)) }
+/// What an answer tells of.
+#[derive(Clone, Copy)]
+pub struct Told<'a> {
+    /// The collector is closing.
+    pub is_stopping: bool,
+    /// The text of its numbers, where they are asked for.
+    pub metrics: &'a str,
+    /// The text of its configuration.
+    pub config: &'a str,
+    /// The page that shows it, in HTML.
+    pub page: &'a str,
+    /// The fields of a head that go with the page, each with its line end.
+    pub page_fields: &'a str,
+}
+
+/// The answer to a request, from what it tells of.
+pub fn answer(alloc: Global, asked: AdminRequest, told: Told<'_>) -> Result<String, AllocError>
+    ensures { IfOk result (λ text. string_bytes text ≡ answer_of asked (state told.entry.is_stopping told.entry.metrics.now told.entry.config.now told.entry.page.now told.entry.page_fields.now)) }
 {
-    let shown = page_of(asked.route, is_stopping, metrics, config);
-    page_text(alloc, &shown, allow_line(asked.route), asked.is_head)
+    let shown = page_of(asked.route, told);
+    page_text(alloc, &shown, own_fields(asked.route, told), asked.is_head)
 }
 
 /// What a route is answered.
-fn page_of<'a>(route: Route, is_stopping: bool, metrics: &'a str, config: &'a str) -> AdminPage<'a>
-    ensures { page result.status result.reason.now result.media.now result.body.now ≡ page_of route (state is_stopping metrics.now config.now) }
+fn page_of<'a>(route: Route, told: Told<'a>) -> AdminPage<'a>
+    ensures { page result.status result.reason.now result.media.now result.body.now ≡ page_of route (state told.entry.is_stopping told.entry.metrics.now told.entry.config.now told.entry.page.now told.entry.page_fields.now) }
 {
     match route {
         Route::Close | Route::Reopen => json(200, "OK", "{}"),
@@ -39,14 +47,20 @@ fn page_of<'a>(route: Route, is_stopping: bool, metrics: &'a str, config: &'a st
             status: 200,
             reason: "OK",
             media: "text/plain; version=0.0.4; charset=utf-8",
-            body: metrics,
+            body: told.metrics,
         },
-        Route::Health => health_page(is_stopping),
+        Route::Health => health_page(told.is_stopping),
         Route::Config => AdminPage {
             status: 200,
             reason: "OK",
             media: "application/toml",
-            body: config,
+            body: told.config,
+        },
+        Route::Page => AdminPage {
+            status: 200,
+            reason: "OK",
+            media: "text/html; charset=utf-8",
+            body: told.page,
         },
         Route::Forbidden => json(403, "Forbidden", "{\"message\":\"forbidden\"}"),
         Route::NotFound => json(404, "Not Found", "{\"message\":\"not found\"}"),
@@ -96,12 +110,13 @@ fn health_page(is_stopping: bool) -> AdminPage<'static>
     }
 }
 
-/// The field that names the method of a target that was asked by another.
-fn allow_line(route: Route) -> &'static str
-    ensures { result.now ≡ allow_line route }
+/// The fields that an answer has of its own.
+fn own_fields<'a>(route: Route, told: Told<'a>) -> &'a str
+    ensures { result.now ≡ own_fields route (state told.entry.is_stopping told.entry.metrics.now told.entry.config.now told.entry.page.now told.entry.page_fields.now) }
 {
     match route {
-        Route::WrongMethod(Method::Get) => "Allow: GET\r\n",
+        Route::Page => told.page_fields,
+        Route::WrongMethod(Method::Get) => "Allow: GET, HEAD\r\n",
         Route::WrongMethod(Method::Post) => "Allow: POST\r\n",
         _ => "",
     }
@@ -111,10 +126,10 @@ fn allow_line(route: Route) -> &'static str
 fn page_text(
     alloc: Global,
     shown: &AdminPage<'_>,
-    allow: &str,
+    fields: &str,
     is_head: bool,
 ) -> Result<String, AllocError>
-    ensures { IfOk result (λ text. string_bytes text ≡ page_text (page shown.now.status shown.now.reason.now shown.now.media.now shown.now.body.now) allow.now is_head) }
+    ensures { IfOk result (λ text. string_bytes text ≡ page_text (page shown.now.status shown.now.reason.now shown.now.media.now shown.now.body.now) fields.now is_head) }
 {
     let len = shown.body.len();
     let sent = sent_of(is_head, shown.body);
@@ -124,7 +139,7 @@ fn page_text(
         shown.reason,
         shown.media,
         len,
-        allow,
+        fields,
         sent,
     )
 }
@@ -143,12 +158,12 @@ fn joined(
     reason: &str,
     media: &str,
     len: usize,
-    allow: &str,
+    fields: &str,
     sent: &str,
 ) -> Result<String, AllocError>
-    ensures { IfOk result (λ text. string_bytes text ≡ joined status reason.now media.now len allow.now sent.now) }
+    ensures { IfOk result (λ text. string_bytes text ≡ joined status reason.now media.now len fields.now sent.now) }
 {
     format!(in alloc;
-        "HTTP/1.1 {status} {reason}\r\nContent-Type: {media}\r\nContent-Length: {len}\r\n{allow}Connection: close\r\n\r\n{sent}"
+        "HTTP/1.1 {status} {reason}\r\nContent-Type: {media}\r\nContent-Length: {len}\r\n{fields}Connection: close\r\n\r\n{sent}"
     )
 }

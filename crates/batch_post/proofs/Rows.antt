@@ -1,12 +1,12 @@
 -- What is done after an answer, computed, and a log by hand.
-use Rattle.std.proofs.Common.{◌≡◌, [], ◌∷◌, Some, None, refl}
+use Rattle.std.proofs.Common.{◌≡◌, ℕ, [], ◌∷◌, map, Option, Some, None, refl}
 use Rattle.batch_post.specs.declared.outcome.AttemptOutcome.TheVariants.{Answered, NoAnswer}
 use Rattle.batch_post.specs.declared.outcome.BatchFate.TheVariants.{Delivered, GivenUp}
 use Rattle.batch_post.specs.declared.rule.Retry.{Retry}
 use Rattle.batch_post.specs.declared.rule.RetryVerdict.TheVariants.{Taken, Waits, Ends}
-use Rattle.batch_post.specs.Rules.{next_wait, with_jitter, verdict_of}
-use Rattle.batch_post.specs.Logs.{tried, settled}
-use Rattle.batch_post.specs.Deliveries.{delivered_bytes}
+use Rattle.batch_post.specs.Rules.{next_wait, wait_behind, with_jitter, verdict_of}
+use Rattle.batch_post.specs.Logs.{tried, told, drawn, remained, waited, settled}
+use Rattle.batch_post.specs.Deliveries.{Attempt, Retried, Course, IsCourse, verdict_on, course_entries, delivered_bytes}
 
 -- half a second at first, at most thirty, and five minutes in all
 abbrev usual : Retry
@@ -75,6 +75,53 @@ whole_wait = refl
 half_wait : with_jitter 1000 500 ≡ 500
 half_wait = refl
 
+doubled_to_the_longest : map (wait_behind usual) (0 ∷ 1 ∷ 2 ∷ 3 ∷ 4 ∷ 5 ∷ 6 ∷ 7 ∷ []) ≡ 500 ∷ 1000 ∷ 2000 ∷ 4000 ∷ 8000 ∷ 16000 ∷ 30000 ∷ 30000 ∷ []
+doubled_to_the_longest = refl
+
+-- Three attempts, from 1000 on: none is answered the first time, then the backend is away for seven seconds, and then it
+-- takes the batch.
+abbrev first_try : Retried
+first_try = record { attempt = record { outcome = NoAnswer; random = 150; moment = 1130; left = None }; wait = 350 }
+
+abbrev second_try : Retried
+second_try = record { attempt = record { outcome = Answered 503 (Some 7000); random = 9; moment = 1512; left = None }; wait = 7000 }
+
+abbrev three_tries : Course
+three_tries = record { began = 1000; before = first_try ∷ second_try ∷ []; last = record { outcome = Answered 200 None; random = 4; moment = 8777; left = Some 20 } }
+
+is_delivered_at_last : IsCourse usual Delivered three_tries
+is_delivered_at_last = record { waits = (refl, (refl, tt)); ends = refl; again = refl; taken = refl }
+
+what_they_leave : course_entries (65 ∷ 66 ∷ []) three_tries
+    ≡ told 1000
+    ∷ tried (65 ∷ 66 ∷ []) NoAnswer ∷ drawn 150 ∷ told 1130 ∷ remained None ∷ waited 350
+    ∷ tried (65 ∷ 66 ∷ []) (Answered 503 (Some 7000)) ∷ drawn 9 ∷ told 1512 ∷ remained None ∷ waited 7000
+    ∷ tried (65 ∷ 66 ∷ []) (Answered 200 None) ∷ drawn 4 ∷ told 8777 ∷ remained (Some 20) ∷ []
+what_they_leave = refl
+
+-- The third attempt isn't answered either. The wait would be one of two seconds, less 9 milliseconds: where ten seconds
+-- are the patience, it is waited while 8009 milliseconds have passed behind that attempt, and not a millisecond later.
+abbrev brief : Retry
+brief = record { initial = 500; longest = 30000; patience = 10000 }
+
+abbrev third_try : (moment : ℕ) (left : Option ℕ) → Attempt
+third_try moment left = record { outcome = NoAnswer; random = 9; moment = moment; left = left }
+
+given_up_late : IsCourse brief GivenUp (record { began = 1000; before = first_try ∷ second_try ∷ []; last = third_try 9010 None })
+given_up_late = record { waits = (refl, (refl, tt)); ends = refl; again = refl; taken = refl }
+
+just_in_time : verdict_on brief 1000 2 (third_try 9009 None) ≡ Waits 1991
+just_in_time = refl
+
+-- and while the collector closes, as long as that wait is left
+given_up_at_the_close : IsCourse brief GivenUp (record { began = 1000; before = first_try ∷ second_try ∷ []; last = third_try 9009 (Some 1990) })
+given_up_at_the_close = record { waits = (refl, (refl, tt)); ends = refl; again = refl; taken = refl }
+
+waits_to_the_close : verdict_on brief 1000 2 (third_try 9009 (Some 1991)) ≡ Waits 1991
+waits_to_the_close = refl
+
 -- a line that was tried twice and given up, and one that was delivered
-two_lines : delivered_bytes (tried (65 ∷ []) NoAnswer ∷ tried (65 ∷ []) (Answered 400 None) ∷ settled (65 ∷ []) GivenUp ∷ tried (66 ∷ []) (Answered 200 None) ∷ settled (66 ∷ []) Delivered ∷ []) ≡ 66 ∷ []
+two_lines : delivered_bytes
+    (told 0 ∷ tried (65 ∷ []) NoAnswer ∷ drawn 1 ∷ told 2 ∷ remained None ∷ waited 3 ∷ tried (65 ∷ []) (Answered 400 None) ∷ settled (65 ∷ []) GivenUp ∷ tried (66 ∷ []) (Answered 200 None) ∷ settled (66 ∷ []) Delivered ∷ [])
+    ≡ 66 ∷ []
 two_lines = refl

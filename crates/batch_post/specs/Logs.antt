@@ -1,16 +1,22 @@
--- What was tried and what was settled.
-use Rattle.std.specs.Prelude.{◌≡◌, ⊤, ℕ, List, [], ◌++◌, map, Option, Some, None}
+-- What was tried, read and waited, and what was settled.
+use Rattle.std.specs.Prelude.{◌≡◌, ⊤, ℕ, List, [], ◌++◌, Option, Some, None}
 use Rattle.batch_post.specs.declared.outcome.AttemptOutcome.{AttemptOutcome}
 use Rattle.batch_post.specs.declared.outcome.BatchFate.{BatchFate}
 
--- an attempt to hand a batch over, or the end of a batch
+-- what a backend was asked, and what it answered
 pub data LogEntry : Type 0 where
+  -- an attempt to hand a batch over, and how it ended
   tried : (batch : List ℕ) → AttemptOutcome → LogEntry
+  -- the moment that the clock told
+  told : (moment : ℕ) → LogEntry
+  -- a random number that was drawn
+  drawn : (random : ℕ) → LogEntry
+  -- what was left, once the collector closes
+  remained : (left : Option ℕ) → LogEntry
+  -- the wait that was asked for, in milliseconds
+  waited : (wait : ℕ) → LogEntry
+  -- the end of a batch
   settled : (batch : List ℕ) → BatchFate → LogEntry
-
--- attempts to hand over one batch
-abbrev pub attempts : (batch : List ℕ) → List AttemptOutcome → List LogEntry
-attempts batch outcomes = map (tried batch) outcomes
 
 -- a log grows by these entries, where it is known, and else stays unknown
 abbrev pub Grows : Option (List LogEntry) → Option (List LogEntry) → List LogEntry → Type 0

@@ -1,24 +1,26 @@
 -- Destinations whose lines are batches for a backend.
-use Rattle.std.specs.Prelude.{◌≡◌, ℕ, false, List, [], ◌∷◌, ◌++◌, Option, Result, Ok, Err}
+use Rattle.std.specs.Prelude.{◌≡◌, ℕ, List, Option, Result, Ok, Err}
 use Rattle.span_sink.specs.declared.sink.SinkFault.{SinkFault}
 use Rattle.span_sink.specs.declared.sink.SinkFault.TheVariants.{Failed, Down, Refused}
 use Rattle.span_sink.specs.LineSinks.{LineSinkState, up_state}
 use Rattle.batch_post.specs.declared.outcome.BatchFate.{BatchFate}
 use Rattle.batch_post.specs.declared.outcome.BatchFate.TheVariants.{Delivered, GivenUp}
+use Rattle.batch_post.specs.declared.rule.Retry.{Retry}
 use Rattle.batch_post.specs.Logs.{LogEntry}
 use Rattle.batch_post.specs.Deliveries.{Posts, known_bytes}
 
--- what was tried and settled, where that is known
+-- the rule, and what was tried, read, waited and settled, where that is known
 pub record PostsState : Type 0 where
+  pub rule : Retry
   pub log : Option (List LogEntry)
 
 -- as a destination: it took the batches that were delivered, and is never down
 abbrev pub posts_state : PostsState → LineSinkState
 posts_state s = up_state (known_bytes s.log) 0
 
--- a batch was tried, and settled so
+-- a batch was tried by the rule, which stays, and settled so
 abbrev pub Posted : (old : PostsState) → (batch : List ℕ) → BatchFate → (new : PostsState) → Type 0
-Posted old batch fate new = Posts old.log new.log batch fate
+Posted old batch fate new = (new.rule ≡ old.rule) × Posts old.rule old.log new.log batch fate
 
 -- what lines are printed to, and what they are posted to
 pub record PrintedState : Type 0 where

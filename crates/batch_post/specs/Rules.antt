@@ -1,6 +1,6 @@
 -- What each answer means, and how long the waits are (OTLP 1.x, OTLP/HTTP: "Failures", "Retryable Response Codes",
 -- "OTLP/HTTP Throttling").
-use Rattle.std.specs.Prelude.{ℕ, ◌+◌, ◌-◌, ◌*◌, ◌/◌, ◌%◌, ◌^◌, ◌==◌, min, nat_lt, Bool, true, false, not, ◌&&◌, ◌||◌, Option, Some, None, if◌then◌else◌}
+use Rattle.std.specs.Prelude.{ℕ, zero, suc, ◌+◌, ◌-◌, ◌*◌, ◌/◌, ◌%◌, ◌^◌, ◌==◌, min, nat_lt, Bool, true, false, not, ◌&&◌, ◌||◌, Option, Some, None, if◌then◌else◌}
 use Rattle.batch_post.specs.declared.outcome.AttemptOutcome.{AttemptOutcome}
 use Rattle.batch_post.specs.declared.outcome.AttemptOutcome.TheVariants.{Answered, NoAnswer}
 use Rattle.batch_post.specs.declared.rule.Retry.{Retry}
@@ -24,6 +24,12 @@ most = 2 ^ 64 - 1
 -- the wait after this one: twice as long, and at most the longest
 abbrev pub next_wait : Retry → (wait : ℕ) → ℕ
 next_wait rule wait = min (min (wait * 2) most) rule.longest
+
+-- the wait behind an attempt that no answer asks for, where so many were made before: the first one, and then each after
+-- the one before it
+abbrev pub wait_behind : Retry → (tries : ℕ) → ℕ
+wait_behind rule zero = rule.initial
+wait_behind rule (suc tries) = next_wait rule (wait_behind rule tries)
 
 -- between the half and the whole of a wait
 abbrev pub with_jitter : (wait random : ℕ) → ℕ

@@ -1,12 +1,12 @@
 //! What takes batches.
 ghost use Rattle.std.specs.Prelude.{◌∷◌, [], List, Option};
-ghost use Rattle.batch_post.specs.Logs.{LogEntry, Grows, settled, tried};
+ghost use Rattle.batch_post.specs.Logs.{LogEntry, Grows, drawn, remained, settled, told, tried, waited};
 
 use crate::outcome::{AttemptOutcome, BatchFate};
 
 /// A backend, as one sees it who delivers batches to it.
 pub trait Backend {
-    /// What was tried, and what was settled, in order, where that is known.
+    /// What was tried, read, waited and settled, in order, where that is known.
     ghost log: { Self → Option (List LogEntry) };
 
     /// Tries to hand a batch over, and answers how that ended.
@@ -19,15 +19,17 @@ pub trait Backend {
 
     /// Waits for this number of milliseconds, or less where the collector closes meanwhile.
     fn wait(&mut self, milliseconds: u64)
-        ensures { Grows (log self.old) (log self.new) [] };
+        ensures { Grows (log self.old) (log self.new) (waited milliseconds ∷ []) };
 
     /// A moment, in milliseconds.
-    fn now(&self) -> u64;
+    fn now(&mut self) -> u64
+        ensures { Grows (log self.old) (log self.new) (told result ∷ []) };
 
     /// A random number.
     fn random(&mut self) -> u64
-        ensures { Grows (log self.old) (log self.new) [] };
+        ensures { Grows (log self.old) (log self.new) (drawn result ∷ []) };
 
     /// How many milliseconds are left, once the collector closes.
-    fn left(&self) -> Option<u64>;
+    fn left(&mut self) -> Option<u64>
+        ensures { Grows (log self.old) (log self.new) (remained result ∷ []) };
 }

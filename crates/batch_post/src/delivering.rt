@@ -7,14 +7,14 @@ use crate::outcome::BatchFate;
 use crate::rule::{Retry, RetryVerdict};
 use std::sync::Wait;
 
-/// Tries a batch until the backend took it or it is to be given up. That is settled by the caller.
+/// Tries a batch until the backend took it or it is to be given up by the rule. That is settled by the caller.
 pub fn deliver<B: Backend, R: Wait>(
     rt: &R,
     rule: &Retry,
     backend: &mut B,
     batch: &[u8],
 ) -> BatchFate
-    ensures { Delivers (B.log backend.old) (B.log backend.new) batch.now result }
+    ensures { Delivers rule.now (B.log backend.old) (B.log backend.new) batch.now result }
 {
     let began = backend.now();
     let mut wait = rule.initial;
@@ -22,7 +22,8 @@ pub fn deliver<B: Backend, R: Wait>(
         let outcome = backend.attempt(batch);
         let random = backend.random();
         let elapsed = backend.now().saturating_sub(began);
-        match rule.verdict(outcome, wait, random, elapsed, backend.left()) {
+        let left = backend.left();
+        match rule.verdict(outcome, wait, random, elapsed, left) {
             RetryVerdict::Taken => return BatchFate::Delivered,
             RetryVerdict::Waits(milliseconds) => backend.wait(milliseconds),
             RetryVerdict::Ends => return BatchFate::GivenUp,

@@ -2,8 +2,8 @@
 //!
 //! [`deliver`] tries one batch until the backend took it or it is to be given up, [`Posts`] is a destination whose lines
 //! are the batches, and [`PrintedPosts`] prints each line before it is posted. They know no threads and no sockets:
-//! what tries, tells the time and waits is a [`Backend`]. `specs/Rules` says what each answer means and how long the
-//! waits are, `specs/Deliveries` what a delivery did.
+//! what tries, tells the time and waits is a [`Backend`], and its log has all of that. `specs/Rules` says what each answer
+//! means and how long the waits are, `specs/Deliveries` what a delivery did.
 //!
 //! ```
 //! let rule = Retry { initial: 5_000, longest: 30_000, patience: 300_000 };

@@ -29,16 +29,16 @@ impl<'r, B: Backend, R: Wait> Model for Posts<'r, B, R> {
 
     ghost Value = { PostsState };
 
-    ghost view = { λ s. record { log = B.log s.backend } };
+    ghost view = { λ s. record { rule = s.rule; log = B.log s.backend } };
 
-    ghost invariant = { λ s. IsKnownLog (B.log s.backend) };
+    ghost invariant = { λ s. IsKnownLog s.rule (B.log s.backend) };
 }
 
 impl<'r, B: Backend, R: Wait> Posts<'r, B, R> {
     /// A destination over a backend to which nothing was sent.
     pub fn new(rt: &'r R, rule: Retry, backend: B) -> Self
         requires { IsNewLog (B.log backend) }
-        ensures { result ≡ record { log = B.log backend } }
+        ensures { result ≡ record { rule = rule; log = B.log backend } }
     {
         Posts { rt, rule, backend }
     }

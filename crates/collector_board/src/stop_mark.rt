@@ -1,6 +1,8 @@
 //! The mark to stop.
+ghost use Rattle.std.specs.Prelude.{◌≡◌};
+
 use http_lane::HasStopMark;
-use std::sync::OnceLock;
+use std::sync::{OnceLock, OnceToken, Wait};
 
 /// Who asked the collector to close.
 #[derive(Clone, Copy, PartialEq, Eq)]
@@ -36,6 +38,22 @@ impl StopMark {
         StopMark {
             set: OnceLock::new(),
         }
+    }
+
+    /// Sets the mark, and shows that it is set. The first one who did is known. It waits where another thread is setting
+    /// it.
+    pub fn set_shown<R: Wait>(&self, rt: &R, closer: Closer) -> OnceToken<'_, Closer>
+        ensures { result.of ≡ self.now.set.id }
+    {
+        if let Ok(token) = self.set.try_set(closer) {
+            return token;
+        }
+        for _ in rt.forever() {
+            if let Some(token) = self.set.witness() {
+                return token;
+            }
+        }
+        unreachable!()
     }
 
     /// Sets the mark. The first one who did is known.

@@ -7,9 +7,9 @@ use http_lane::HasStopMark;
 use span_sink::{Sink, SinkFault};
 use std::time::Clock;
 
-/// A sink over another one. Where a write fails it tells a board, and sets a mark to stop, if it is told to; what was taken
-/// is told to the board, unless lines are sent, too, and counted there; and while a write is under way others can tell for how long; what it takes and what it answers are those of
-/// the other.
+/// A sink over another one, which takes what that takes and answers what that answers. Where a write fails it tells a
+/// board, and sets a mark to stop, if it is asked to. It tells the board what was taken, unless lines are sent, too, and
+/// counted there. While a write is under way others can tell for how long.
 #[derive(Drop)]
 pub struct StoppingSink<'s, S, P, R: Clock> {
     rt: &'s R,

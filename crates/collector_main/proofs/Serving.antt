@@ -9,7 +9,6 @@ use Rattle.collector_main.specs.Configuration.{IsConfigOf}
 use Rattle.collector_main.specs.Outcomes.{served_to}
 use Rattle.collector_main.specs.Ending.{Course, SendsTo, RunsTo, FilesTo, RanOn, Serves, prints, writes_file}
 use Rattle.collector_main.specs.declared.program.Outcome.{Outcome}
-use Rattle.collector_main.specs.declared.program.Outcome.TheVariants.{CannotListen}
 
 -- what a run by a configuration answered
 Serves-answered : (course : Course) (answer : Result Report ServeFault) → RanOn course (served_to answer) → Serves course (served_to answer)
@@ -25,10 +24,6 @@ Serves-ran course answer outcome is ran = subst (λ o. Serves course o) (sym is)
 pub sends-starved : (config : Config) (lines : Bool) (taken taken_after : Option (List ℕ)) → config.export.lines ≡ lines → taken_after ≡ taken → SendsTo config taken taken_after (served_to (Err NoMemory))
 sends-starved config false taken taken_after is same = inl (is, same, (None, None, inr (0, Err NoMemory, (refl, refl), tt, refl)))
 sends-starved config true taken taken_after is same = inr (is, inr (0, Err NoMemory, (same, refl), tt, refl))
-
-pub sends-unheard : (config : Config) (lines : Bool) (taken : Option (List ℕ)) → config.export.lines ≡ lines → SendsTo config taken taken CannotListen
-sends-unheard config false taken is = inl (is, refl, (None, None, inl (refl, refl)))
-sends-unheard config true taken is = inr (is, inl (refl, refl))
 
 runs-starved : (config : Config) (is : Bool) (taken : Option (List ℕ)) → prints config ≡ is → RunsTo config taken taken (served_to (Err NoMemory))
 runs-starved config true taken printed = inl (printed, inr (0, Err NoMemory, (refl, refl), tt, refl))

@@ -70,14 +70,6 @@ HandsText-one old new line (Err Down) some d = record {
   stays = λ e. (d.1, refl);
 }
 
--- no line was handed over
-pub HandsText-none : (s : LineSinkState) → s.is_down ≡ false → HandsText s [] true s
-HandsText-none s up = record {
-  writes = record { part = []; missing = []; split = refl; whole = λ e. refl; cut_short = λ (e : true ≡ false). cc; bytes = Appends-nil s.taken };
-  down = up;
-  stays = λ (d : s.is_down ≡ true). cc;
-}
-
 some_more : (xs ys : List ℕ) → 0 < length xs → 0 < length (xs ++ ys)
 some_more [] ys e = absurd (let no : 0 < 0 = e in omega arith)
 some_more (x ∷ xs) ys e = omega arith

@@ -17,6 +17,7 @@ use lane_driver::Loads;
 use otlp_types::TryClone;
 use output_file::ReopenMark;
 use pipeline::Machine;
+use status_page::status_page;
 use std::alloc::{AllocError, Global};
 use std::fs::File;
 use std::io::{Read, Write};
@@ -60,6 +61,7 @@ pub fn charge_of(
         output: config.output.try_clone(alloc)?,
         metrics_address: config.metrics.try_clone(alloc)?,
         stall: OutputStall::new(),
+        page: status_page(),
     };
     Ok(Arc::new(alloc, charge)?)
 }

@@ -86,7 +86,7 @@ fn take_all<R: Threads + Wait + Clock + Copy + Send + 'static>(
 
 impl Reception {
     /// Answers a connection, by a thread of its own.
-    fn takes<R: Threads + Clock + Copy + Send + 'static>(
+    fn takes<R: Threads + Wait + Clock + Copy + Send + 'static>(
         &mut self,
         rt: &R,
         alloc: Global,

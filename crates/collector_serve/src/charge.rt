@@ -1,5 +1,5 @@
 //! What a collector shares with those in charge of it.
-ghost use Rattle.std.specs.Prelude.{◌≡◌};
+ghost use Rattle.std.specs.Prelude.{◌≡◌, ∥◌∥₁, IfSome};
 
 use crate::admin_door::end_admin;
 use admin_http::Admin;
@@ -9,10 +9,11 @@ use lane_driver::Loads;
 use metrics_text::{Metrics, metrics_text};
 use otlp_types::Text;
 use output_file::ReopenMark;
+use status_page::StatusPage;
 use std::alloc::{AllocError, Global};
 use std::io::Read;
 use std::rt::Files;
-use std::sync::{Arc, Wait};
+use std::sync::{Arc, OnceToken, Wait};
 use std::thread::Threads;
 use std::time::{Clock, Instant};
 use std::{io, thread};
@@ -40,6 +41,8 @@ pub struct Charge {
     pub output: Text,
     /// The address at which numbers alone are told, or nothing.
     pub metrics_address: Text,
+    /// The page that shows what it tells.
+    pub page: StatusPage,
 }
 
 impl Charge {
@@ -109,44 +112,49 @@ pub struct InCharge<'c, R: Clock> {
     rt: &'c R,
     charge: &'c Charge,
     began: Option<Instant>,
-    is_closed: bool,
+    /// What shows that the mark to stop is set, once it was asked to close here.
+    closed: Option<OnceToken<'c, Closer>>,
     is_reopened: bool,
+    ghost of_the_mark: { ∥ IfSome closed (λ token. token.of ≡ charge.now.stop.set.id) ∥₁ },
 }
 
-impl<'c, R: Clock> InCharge<'c, R> {
+impl<'c, R: Clock + Wait> InCharge<'c, R> {
     /// A collector that has been at work since then, and that was asked for nothing.
     pub fn new(rt: &'c R, charge: &'c Charge, began: Option<Instant>) -> Self {
         InCharge {
             rt,
             charge,
             began,
-            is_closed: false,
+            closed: None,
             is_reopened: false,
         }
     }
 }
 
-impl<'c, R: Clock> Admin for InCharge<'c, R> {
-    ghost use Rattle.std.specs.Prelude.{◌≡◌, ⊤, string_bytes};
+impl<'c, R: Clock + Wait> Admin for InCharge<'c, R> {
+    ghost use Rattle.std.specs.Prelude.{◌≡◌, None, false, is_some, string_bytes};
     ghost use Rattle.metrics_text.specs.Text.{metrics_text};
     ghost use Rattle.metrics_text.specs.declared.metrics.Metrics.{Metrics};
     ghost use Rattle.metrics_text.specs.declared.metrics.ShardNumbers.{ShardNumbers};
     ghost use Rattle.metrics_text.specs.declared.metrics.PolicyNumbers.{PolicyNumbers};
     ghost use Rattle.std.specs.Prelude.{List};
 
-    ghost is_closed = { λ a. a.is_closed };
+    ghost is_closed = { λ a. is_some a.closed };
 
     ghost is_reopened = { λ a. a.is_reopened };
 
-    ghost stops = { λ a said. ⊤ };
+    ghost stops = { λ a said. said ≡ false → a.closed ≡ None };
 
     ghost tells = { λ a text. (metrics : Metrics) × (policies : List PolicyNumbers) × (shards : List ShardNumbers) × (text ≡ metrics_text metrics policies shards) };
 
-    ghost configuration = { λ a. string_bytes a.charge.now.configuration };
+    ghost texts = { λ a. record {
+      config = string_bytes a.charge.now.configuration;
+      page = a.charge.now.page.text.now;
+      page_fields = a.charge.now.page.fields.now;
+    } };
 
     fn close(&mut self) {
-        self.charge.stop.set_by(Closer::Admin);
-        self.is_closed = true;
+        self.closed = Some(self.charge.stop.set_shown(self.rt, Closer::Admin));
     }
 
     fn reopen(&mut self) {
@@ -155,7 +163,7 @@ impl<'c, R: Clock> Admin for InCharge<'c, R> {
     }
 
     fn is_stopping(&self) -> bool {
-        self.charge.stop.is_set() || self.charge.board.is_down()
+        self.closed.is_some() || self.charge.stop.is_set() || self.charge.board.is_down()
     }
 
     fn metrics(&self, alloc: Global) -> Result<String, AllocError> {
@@ -168,6 +176,16 @@ impl<'c, R: Clock> Admin for InCharge<'c, R> {
 
     fn config(&self) -> &str {
         self.charge.configuration.as_str()
+    }
+
+    fn page(&self) -> &str {
+        let charge = self.charge;
+        charge.page.text
+    }
+
+    fn page_fields(&self) -> &str {
+        let charge = self.charge;
+        charge.page.fields
     }
 }
 

@@ -8,6 +8,7 @@ use std::alloc::Global;
 use std::io;
 use std::io::{Read, Write};
 use std::net::Shutdown;
+use std::sync::Wait;
 use std::sync::atomic::{AtomicBool, Ordering};
 use std::time::{Clock, Instant};
 
@@ -56,7 +57,7 @@ impl Visit {
 
     /// Answers it by a collector that has been at work since then, and ends it. One that can't be answered is ended; so is
     /// each where the clock can't be read.
-    pub fn answer<R: Clock>(
+    pub fn answer<R: Clock + Wait>(
         &self,
         rt: &R,
         alloc: Global,

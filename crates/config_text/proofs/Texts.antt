@@ -4,7 +4,7 @@ use Rattle.std.proofs.Common.{◌≡◌, ℕ, List, Some, sym, ap, ◌∙◌}
 use Rattle.toml.specs.Data.{Members}
 use Rattle.toml.specs.Parse.{parse_document}
 use Rattle.tsc_config.specs.Reading.{reading, reading_of}
-use Rattle.config_text.specs.Whole.{IsTextWithDefaults, IsWritable, TellsEach, with_defaults}
+use Rattle.config_text.specs.Whole.{TellsEach, with_defaults}
 use Rattle.config_text.proofs.SameReading.{same_reading}
 use Rattle.config_text.proofs.Standing.{is_whole}
 
@@ -14,14 +14,5 @@ reads_the_same text written m e f = ap reading_of f ∙ same_reading m ∙ sym (
 some_same : {A : Type 0} (a b : A) → Some a ≡ Some b → a ≡ b
 some_same a b e = cc
 
-pub is_its_text : (text written : List ℕ) (m : Members) → parse_document text ≡ Some m → parse_document written ≡ Some (with_defaults m) → IsTextWithDefaults text written
-is_its_text text written m e f other g w =
-    let same : m ≡ other = some_same m other (sym e ∙ g) in rw (← same) f
-
 pub tells_each : (text written : List ℕ) (m : Members) → parse_document text ≡ Some m → parse_document written ≡ Some (with_defaults m) → TellsEach text written
 tells_each text written m e f other g w = (with_defaults m, f, is_whole m)
-
--- a text that is no document, or whose table can't be written
-pub nothing_told : (text : List ℕ) (m : Members) → parse_document text ≡ Some m → (IsWritable (with_defaults m) → ⊥) → (other : Members) → parse_document text ≡ Some other → IsWritable (with_defaults other) → ⊥
-nothing_told text m e unwritable other g w =
-    let same : other ≡ m = some_same other m (sym g ∙ e) in unwritable (rw (← same) w)

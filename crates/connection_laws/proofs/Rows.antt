@@ -9,12 +9,18 @@ use Rattle.lane_seq.specs.declared.reply.Reply.TheVariants.{Done, Partial, Busy}
 use Rattle.http_text.specs.declared.allowed.Allowed.{Allowed}
 use Rattle.http_lane.specs.declared.answer.EventFate.TheVariants.{Written}
 use Rattle.http_lane.specs.declared.answer.ServeEnd.{ServeEnd}
-use Rattle.http_lane.specs.declared.answer.ServeEnd.TheVariants.{Closed, Cut, Answered, Quiet, ReadFault, WriteFault, NoMemory}
+use Rattle.http_lane.specs.declared.answer.ServeEnd.TheVariants.{Closed, Cut, Answered, Quiet, Stopped, ReadFault, WriteFault, NoMemory}
 use Rattle.http_lane.specs.Connection.{Cause, accepts, submitted, timed_out, ConnectionEvent, in_head}
-use Rattle.http_lane.specs.Turns.{Coming, came, unkept, nothing, over, read_failed, write_failed, dismissed, Waiting, waiting, Turned, turned}
+use Rattle.http_lane.specs.Turns.{Coming, came, unkept, nothing, over, read_failed, write_failed, dismissed, Waiting, waiting, Turned, turned, idle_end}
 use Rattle.http_lane.specs.TurnAgreement.{bytes_that_came, events_then}
 use Rattle.lane_turns.specs.Acts.{Act, took, had}
 use Rattle.connection_laws.specs.Connections.{turns_had, done_for_bytes, end_by_bytes, last_coming, end_for, counted_for}
+
+-- between requests a connection ends a minute after the last one, and no millisecond earlier; at once where the stop mark
+-- is set
+idle_ends : idle_end 7 60006 false ∷ idle_end 7 60007 false ∷ idle_end 7 8 true ∷ idle_end 7 60007 true ∷ []
+    ≡ None ∷ Some Quiet ∷ Some Stopped ∷ Some Stopped ∷ []
+idle_ends = refl
 
 abbrev by_default : Allowed
 by_default = record { gzip = false; protobuf = false; close = true; body_limit = 4194304 }

@@ -40,14 +40,6 @@ all_are_held c w h =
 abbrev waits_at : HeldKey → Bool
 waits_at h = is_waiting h.place
 
-all_pass : {X : Type 0} (xs : List X) → tally (λ (x : X). true) xs ≡ length xs
-all_pass [] = refl
-all_pass (x ∷ xs) = omega (arith, all_pass xs)
-
-none_pass : {X : Type 0} (xs : List X) → tally (λ (x : X). false) xs ≡ 0
-none_pass [] = refl
-none_pass (x ∷ xs) = omega (arith, none_pass xs)
-
 halves : {X : Type 0} (p : X → Bool) (xs : List X) → tally p xs + tally (λ (x : X). not (p x)) xs ≡ length xs
 halves p [] = refl
 halves p (x ∷ xs) = go (p x) (halves p xs)

@@ -24,9 +24,6 @@ others t ts = filter (λ u. not (same_trace t u)) ts
 filter-in : {X : Type 0} (p : X → Bool) (x : X) (xs : List X) → p x ≡ true → filter p (x ∷ xs) ≡ x ∷ filter p xs
 filter-in p x xs h = rw h
 
-filter-out : {X : Type 0} (p : X → Bool) (x : X) (xs : List X) → p x ≡ false → filter p (x ∷ xs) ≡ filter p xs
-filter-out p x xs h = rw h
-
 pub touched-more : (v : Verdict) (u : Touch) (rest : List Touch) → is_same_verdict u.verdict v ≡ true → last_touched v (u ∷ rest) ≡ u.trace ∷ others u.trace (last_touched v rest)
 touched-more v u rest h = rw h
 

@@ -10,6 +10,7 @@ use Rattle.policy_tree.specs.Tree.{no_more, one_more, leaf}
 use Rattle.policy_tree.specs.declared.policy.Leaf.TheVariants.{AlwaysSample}
 use Rattle.journal_theory.specs.Journal.{Settings, Journal, Entry, Opening, clock, notes, due_now}
 use Rattle.journal_theory.specs.Standing.{mark}
+use Rattle.journal_theory.proofs.Samples.{plain_settings}
 use Rattle.decision_times.specs.Times.{WasOpened, HasRoot, Cause, has_waited, root_has_waited, is_big, is_last, HasTime}
 use Rattle.decision_times.proofs.Early.{has_root}
 use Rattle.decision_times.proofs.Late.{root_past}
@@ -25,7 +26,7 @@ span moment parent =
 
 -- a wait of 700 milliseconds, and of 90 from a root; one lane and the ticker
 abbrev waits : Settings
-waits = record { policies = one_more (leaf AlwaysSample) no_more; decision_wait = 700; root_wait = 90; maximum_trace_size = 0; num_traces = None; sampled_cache_size = 0; non_sampled_cache_size = 0; senders = 2 }
+waits = record (plain_settings (one_more (leaf AlwaysSample) no_more)) { decision_wait = 700; root_wait = 90 }
 
 -- how many traces are due where this item follows
 abbrev due_at : Journal → Item → ℕ

@@ -27,10 +27,6 @@ all_of count reports report =
     let f = λ (numbers : List ℕ). slice_index numbers (place_of count) in
     omega (arith, sum_by-append f reports (report ∷ []), sum_by-cons f report [])
 
-pub sums_more : (reports : List (List ℕ)) (report numbers sum : List ℕ) → AreSums reports numbers
-    → ((count : Count) → slice_index sum (place_of count) ≡ slice_index numbers (place_of count) + slice_index report (place_of count)) → AreSums (reports ++ report ∷ []) sum
-sums_more reports report numbers sum are plus count = omega (arith, are count, plus count, all_of count reports report)
-
 -- a sum that passes goes on passing
 pub passes_more : (reports later : List (List ℕ)) (report numbers : List ℕ) → AreSums reports numbers
     → (count : Count) × (2 ^ 64 ≤ slice_index numbers (place_of count) + slice_index report (place_of count)) → SumPasses (reports ++ report ∷ later)

@@ -5,7 +5,7 @@ use Rattle.lane_seq.specs.declared.reply.Reply.TheVariants.{Done, Partial, BadDa
 use Rattle.otlp_encoding.specs.declared.encoding.Encoding.TheVariants as encoding
 use Rattle.protobuf_writer.specs.Writing.{written, message_bytes}
 use Rattle.otlp_request.specs.declared.bad_data.BadData.TheVariants.{Json, Shape}
-use Rattle.http_text.specs.declared.request.RequestRefusal.TheVariants.{HeadTooLarge, BadRequest, NotFound, MethodNotAllowed, Forbidden, UnsupportedMediaType, GzipIsOff, UnsupportedCoding, BodyTooLarge, NotGzip}
+use Rattle.http_text.specs.declared.request.RequestRefusal.TheVariants.{HeadTooLarge, BadRequest, NotFound, MethodNotAllowed, Forbidden, UnsupportedMediaType, GzipIsOff, UnsupportedCoding, NeitherCoding, BodyTooLarge, NotGzip}
 use Rattle.http_answer.specs.Answer.{answer_text, reply_row, refusal_row, done_row, busy_row, closing_row, timeout_row, continue_text}
 use Rattle.std.specs.Fmt.{digits}
 use Rattle.httparse.specs.Ascii.{crlf_bytes}
@@ -49,20 +49,28 @@ media_answer : answer_text (refusal_row encoding.Json UnsupportedMediaType) true
 unfolding digits
 media_answer = refl
 
--- and a coding that isn't taken so
+-- and a coding that isn't taken so, with the codings that are
 gzip_answer : answer_text (refusal_row encoding.Json GzipIsOff) true false
     ≡ line (codes "HTTP/1.1 415 Unsupported Media Type") ++ line (codes "Content-Type: application/json")
-    ++ line (codes "Content-Length: 69") ++ line (codes "Connection: close") ++ crlf_bytes
+    ++ line (codes "Content-Length: 69") ++ line (codes "Accept-Encoding: identity") ++ line (codes "Connection: close") ++ crlf_bytes
     ++ codes "{\"message\":\"unsupported content encoding: gzip is off (accept_gzip)\"}"
 unfolding digits
 gzip_answer = refl
 
 coding_answer : answer_text (refusal_row encoding.Json UnsupportedCoding) true false
     ≡ line (codes "HTTP/1.1 415 Unsupported Media Type") ++ line (codes "Content-Type: application/json")
-    ++ line (codes "Content-Length: 88") ++ line (codes "Connection: close") ++ crlf_bytes
+    ++ line (codes "Content-Length: 88") ++ line (codes "Accept-Encoding: identity") ++ line (codes "Connection: close") ++ crlf_bytes
     ++ codes "{\"message\":\"unsupported content encoding: identity is wanted, or gzip with accept_gzip\"}"
 unfolding digits
 coding_answer = refl
+
+-- where gzip is taken, too
+other_coding_answer : answer_text (refusal_row encoding.Json NeitherCoding) true false
+    ≡ line (codes "HTTP/1.1 415 Unsupported Media Type") ++ line (codes "Content-Type: application/json")
+    ++ line (codes "Content-Length: 88") ++ line (codes "Accept-Encoding: gzip, identity") ++ line (codes "Connection: close") ++ crlf_bytes
+    ++ codes "{\"message\":\"unsupported content encoding: identity is wanted, or gzip with accept_gzip\"}"
+unfolding digits
+other_coding_answer = refl
 
 large_body_answer : answer_text (refusal_row encoding.Json BodyTooLarge) true false
     ≡ line (codes "HTTP/1.1 413 Content Too Large") ++ line (codes "Content-Type: application/json")

@@ -1,7 +1,7 @@
 //! The bytes of answers.
 ghost use Rattle.std.specs.Prelude.{◌≡◌, ℕ, List, true, false, IfOk, length, string_bytes};
 ghost use Rattle.otlp_encoding.specs.MediaTypes.{media_type};
-ghost use Rattle.http_answer.specs.Answer.{text_of_answer, answer_text, head_text, row, told_row, refusal_row, reply_row, reason_of, closing_row, optional, joined_text, continue_text};
+ghost use Rattle.http_answer.specs.Answer.{text_of_answer, answer_text, head_text, row_naming, told_row, told_row_naming, refusal_row, reply_row, reason_of, closing_row, own_field, optional, joined_text, continue_text};
 
 use crate::response::Response;
 use http_text::RequestRefusal;
@@ -17,21 +17,31 @@ fn optional(present: bool, text: &str) -> &str
     if present { text } else { "" }
 }
 
+/// The field that tells a client what to do otherwise.
+fn own_field(status: u16, accept: &str) -> &str
+    ensures { result.now ≡ own_field status accept.now }
+{
+    match status {
+        405 => "Allow: POST\r\n",
+        503 => "Retry-After: 1\r\n",
+        _ => accept,
+    }
+}
+
 /// The head of an answer in JSON, from its parts, and what is behind it.
 fn json_head(
     alloc: Global,
     status: u16,
     reason: &str,
     len: usize,
-    allow: &str,
-    retry: &str,
+    own: &str,
     close: &str,
     sent: &str,
 ) -> Result<String, AllocError>
-    ensures { IfOk result (λ text. string_bytes text ≡ joined_text status reason.now (media_type Encoding.Json) len allow.now retry.now close.now sent.now) }
+    ensures { IfOk result (λ text. string_bytes text ≡ joined_text status reason.now (media_type Encoding.Json) len own.now close.now sent.now) }
 {
     format!(in alloc;
-        "HTTP/1.1 {status} {reason}\r\nContent-Type: application/json\r\nContent-Length: {len}\r\n{allow}{retry}{close}\r\n{sent}"
+        "HTTP/1.1 {status} {reason}\r\nContent-Type: application/json\r\nContent-Length: {len}\r\n{own}{close}\r\n{sent}"
     )
 }
 
@@ -41,15 +51,14 @@ fn protobuf_head(
     status: u16,
     reason: &str,
     len: usize,
-    allow: &str,
-    retry: &str,
+    own: &str,
     close: &str,
     sent: &str,
 ) -> Result<String, AllocError>
-    ensures { IfOk result (λ text. string_bytes text ≡ joined_text status reason.now (media_type Encoding.Protobuf) len allow.now retry.now close.now sent.now) }
+    ensures { IfOk result (λ text. string_bytes text ≡ joined_text status reason.now (media_type Encoding.Protobuf) len own.now close.now sent.now) }
 {
     format!(in alloc;
-        "HTTP/1.1 {status} {reason}\r\nContent-Type: application/x-protobuf\r\nContent-Length: {len}\r\n{allow}{retry}{close}\r\n{sent}"
+        "HTTP/1.1 {status} {reason}\r\nContent-Type: application/x-protobuf\r\nContent-Length: {len}\r\n{own}{close}\r\n{sent}"
     )
 }
 
@@ -59,17 +68,17 @@ fn head_text(
     encoding: Encoding,
     status: u16,
     reason: &str,
+    accept: &str,
     len: usize,
     closes: bool,
 ) -> Result<String, AllocError>
-    ensures { (body : List ℕ) → length body ≡ len → IfOk result (λ text. string_bytes text ≡ head_text (row encoding status reason.now body) closes) }
+    ensures { (body : List ℕ) → length body ≡ len → IfOk result (λ text. string_bytes text ≡ head_text (row_naming accept.now encoding status reason.now body) closes) }
 {
-    let allow = optional(status == 405, "Allow: POST\r\n");
-    let retry = optional(status == 503, "Retry-After: 1\r\n");
+    let own = own_field(status, accept);
     let close = optional(closes, "Connection: close\r\n");
     match encoding {
-        Encoding::Json => json_head(alloc, status, reason, len, allow, retry, close, ""),
-        Encoding::Protobuf => protobuf_head(alloc, status, reason, len, allow, retry, close, ""),
+        Encoding::Json => json_head(alloc, status, reason, len, own, close, ""),
+        Encoding::Protobuf => protobuf_head(alloc, status, reason, len, own, close, ""),
     }
 }
 
@@ -79,13 +88,14 @@ fn answer_text(
     encoding: Encoding,
     status: u16,
     reason: &str,
+    accept: &str,
     body: &[u8],
     closes: bool,
     is_head: bool,
 ) -> Result<Vec<u8>, AllocError>
-    ensures { IfOk result (λ text. text.items ≡ answer_text (row encoding status reason.now body.now) closes is_head) }
+    ensures { IfOk result (λ text. text.items ≡ answer_text (row_naming accept.now encoding status reason.now body.now) closes is_head) }
 {
-    let head = head_text(alloc, encoding, status, reason, body.len(), closes)?;
+    let head = head_text(alloc, encoding, status, reason, accept, body.len(), closes)?;
     let mut text = head.into_bytes();
     if is_head {
         return Ok(text);
@@ -94,17 +104,17 @@ fn answer_text(
     Ok(text)
 }
 
-/// An answer that says why a request wasn't taken.
+/// An answer that says why a request wasn't taken, and closes the connection.
 fn told_text(
     alloc: Global,
     encoding: Encoding,
     status: u16,
     reason: &str,
+    accept: &str,
     message: &str,
-    closes: bool,
     is_head: bool,
 ) -> Result<Vec<u8>, AllocError>
-    ensures { IfOk result (λ text. text.items ≡ answer_text (told_row encoding status reason.now message.now) closes is_head) }
+    ensures { IfOk result (λ text. text.items ≡ answer_text (told_row_naming accept.now encoding status reason.now message.now) true is_head) }
 {
     let body = message_body(alloc, encoding, status, message)?;
     answer_text(
@@ -112,44 +122,61 @@ fn told_text(
         encoding,
         status,
         reason,
+        accept,
         body.as_slice(),
-        closes,
+        true,
         is_head,
     )
 }
 
-/// The status of a refusal, its reason phrase and what its answer says.
-fn refusal_row(refusal: RequestRefusal) -> (u16, &'static str, &'static str)
-    ensures { (encoding : Encoding) → told_row encoding result.0 result.1.now result.2.now ≡ refusal_row encoding refusal }
+/// The status of a refusal, its reason phrase, the field that names the codings that are taken, where another was the
+/// cause, and what its answer says.
+fn refusal_row(refusal: RequestRefusal) -> (u16, &'static str, &'static str, &'static str)
+    ensures { (encoding : Encoding) → told_row_naming result.2.now encoding result.0 result.1.now result.3.now ≡ refusal_row encoding refusal }
 {
     match refusal {
-        RequestRefusal::HeadTooLarge => (431, "Request Header Fields Too Large", "head too large"),
-        RequestRefusal::BadRequest => (400, "Bad Request", "bad request"),
-        RequestRefusal::NotGzip => (400, "Bad Request", "not gzip"),
-        RequestRefusal::NotFound => (404, "Not Found", "not found"),
-        RequestRefusal::MethodNotAllowed => (405, "Method Not Allowed", "method not allowed"),
-        RequestRefusal::Forbidden => (403, "Forbidden", "forbidden"),
+        RequestRefusal::HeadTooLarge => (
+            431,
+            "Request Header Fields Too Large",
+            "",
+            "head too large",
+        ),
+        RequestRefusal::BadRequest => (400, "Bad Request", "", "bad request"),
+        RequestRefusal::NotGzip => (400, "Bad Request", "", "not gzip"),
+        RequestRefusal::NotFound => (404, "Not Found", "", "not found"),
+        RequestRefusal::MethodNotAllowed => (405, "Method Not Allowed", "", "method not allowed"),
+        RequestRefusal::Forbidden => (403, "Forbidden", "", "forbidden"),
         RequestRefusal::UnsupportedMediaType => (
             415,
             "Unsupported Media Type",
+            "",
             "unsupported media type: application/json is wanted",
         ),
         RequestRefusal::NeitherMediaType => (
             415,
             "Unsupported Media Type",
+            "",
             "unsupported media type: application/json or application/x-protobuf is wanted",
         ),
         RequestRefusal::GzipIsOff => (
             415,
             "Unsupported Media Type",
+            "Accept-Encoding: identity\r\n",
             "unsupported content encoding: gzip is off (accept_gzip)",
         ),
         RequestRefusal::UnsupportedCoding => (
             415,
             "Unsupported Media Type",
+            "Accept-Encoding: identity\r\n",
             "unsupported content encoding: identity is wanted, or gzip with accept_gzip",
         ),
-        RequestRefusal::BodyTooLarge => (413, "Content Too Large", "body too large"),
+        RequestRefusal::NeitherCoding => (
+            415,
+            "Unsupported Media Type",
+            "Accept-Encoding: gzip, identity\r\n",
+            "unsupported content encoding: identity is wanted, or gzip with accept_gzip",
+        ),
+        RequestRefusal::BodyTooLarge => (413, "Content Too Large", "", "body too large"),
     }
 }
 
@@ -162,8 +189,8 @@ fn refusal_text(
 ) -> Result<Vec<u8>, AllocError>
     ensures { IfOk result (λ text. text.items ≡ answer_text (refusal_row encoding refusal) true is_head) }
 {
-    let (status, reason, message) = refusal_row(refusal);
-    told_text(alloc, encoding, status, reason, message, true, is_head)
+    let (status, reason, accept, message) = refusal_row(refusal);
+    told_text(alloc, encoding, status, reason, accept, message, is_head)
 }
 
 /// The reason phrase of a reply's status.
@@ -192,6 +219,7 @@ fn reply_text(
         encoding,
         status(reply),
         reason_of(reply),
+        "",
         body.as_slice(),
         closes,
         false,
@@ -215,7 +243,7 @@ fn closing_text(
 ) -> Result<Vec<u8>, AllocError>
     ensures { IfOk result (λ text. text.items ≡ answer_text (told_row encoding status reason.now message.now) true false) }
 {
-    told_text(alloc, encoding, status, reason, message, true, false)
+    told_text(alloc, encoding, status, reason, "", message, false)
 }
 
 /// The bytes of an answer in an encoding, or of the interim line.
@@ -227,7 +255,16 @@ pub fn text_of(alloc: Global, encoding: Encoding, answer: &Response) -> Result<V
         Response::Refused { refusal, is_head } => {
             refusal_text(alloc, encoding, *refusal, *is_head)
         }
-        Response::CloseAsked => answer_text(alloc, Encoding::Json, 200, "OK", b"{}", true, false),
+        Response::CloseAsked => answer_text(
+            alloc,
+            Encoding::Json,
+            200,
+            "OK",
+            "",
+            b"{}",
+            true,
+            false,
+        ),
         Response::Starved => closing_text(alloc, encoding, 503, "Service Unavailable", "busy"),
         Response::Stopping => closing_text(alloc, encoding, 503, "Service Unavailable", "closing"),
         Response::TimedOut => {

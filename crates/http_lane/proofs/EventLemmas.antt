@@ -1,6 +1,6 @@
 -- What events do, one after another.
 -- They serve the clauses of `write_text`, `respond`, `act`, `settle`, `wait` and `serve_turns`.
-use Rattle.std.proofs.Common.{false, ◌≡◌, ℕ, List, [], ◌∷◌, ◌++◌, Option, Some, None, sym, ap, ◌∙◌, refl, subst, append_assoc, append-nil, true, take, drop, ◌+◌, Bool, length, ◌<◌, arith, length-append, inl, inr, ◌⊎◌}
+use Rattle.std.proofs.Common.{false, ◌≡◌, ℕ, List, [], ◌∷◌, ◌++◌, Option, Some, None, sym, ap, ◌∙◌, refl, subst, append_assoc, append-nil, true, take, drop, ◌+◌, Bool, length, ◌<◌, arith, length-append, inr}
 use Rattle.std.specs.Prelude.{MatchOption, ◌||◌}
 use Rattle.std.proofs.Math.Seq.{take-add}
 use Rattle.std.specs.Io.KnownBytes.{Appends, Consumes}
@@ -270,16 +270,6 @@ counted_text Unwritten f = refl
 pub serving_first : {E L : Type 0} (awaits : E → RequestReading → Type 0) (submits : L → Submission → L → Type 0) (text : Option (List ℕ)) (lane : L) (reader : KnownReader) (engine : E) → awaits engine (in_head reader.allowed [])
     → Serving awaits submits text text lane lane reader reader engine 0 0
 serving_first awaits submits text lane reader engine a = record { rounds = []; last = at_first reader.allowed; run = refl; goes_on = refl; stood = a; rests = refl; row_is = refl; count_is = refl; turns = gives_none reader; done = does_none submits text lane }
-
--- all reads were made
-pub serving_turns : {E L : Type 0} (awaits : E → RequestReading → Type 0) (submits : L → Submission → L → Type 0) (t u : Option (List ℕ)) (a b : L) (old new : KnownReader) (engine : E) (row : ℕ)
-    → Serving awaits submits t u a b old new engine row READ_LIMIT → Served submits t u a b old new Turns
-serving_turns awaits submits t u a b old new engine row s = (
-  s.rounds,
-  record { last = s.last; run = s.run; few = omega (arith, s.count_is); ends = subst (λ o. MatchOption o (((Turns ≡ Turns) × (length s.rounds ≡ READ_LIMIT)) ⊎ ((Turns ≡ NoMemory) × (s.rounds ≡ []))) (λ why. Turns ≡ why)) (sym s.goes_on) (inl (refl, s.count_is)) },
-  s.turns,
-  s.done,
-)
 
 -- no read was made, for want of memory
 pub served_nothing : {L : Type 0} (submits : L → Submission → L → Type 0) (text : Option (List ℕ)) (lane : L) (reader : KnownReader) → Served submits text text lane lane reader reader NoMemory

@@ -1,6 +1,6 @@
 -- Where parts end, as more of a stream is looked at.
 -- They serve `value` of `blank_len` and `cuts` of `cut_on`.
-use Rattle.std.proofs.Common.{◌≡◌, suc, ◌+◌, ◌<◌, ◌≤◌, true, false, length, drop, ℕ, List, [], ◌∷◌, ◌++◌, Option, Some, None, Bool, cond, refl, ap, sym, ◌∙◌, arith, get_or, add-one, drop-cons, drop-drop}
+use Rattle.std.proofs.Common.{◌≡◌, suc, ◌+◌, ◌<◌, ◌≤◌, true, false, length, drop, ℕ, List, [], ◌∷◌, ◌++◌, Option, Some, None, Bool, cond, refl, ap, sym, ◌∙◌, arith, drop-drop}
 use Rattle.std.proofs.lemmas.List.{drop-append-le}
 use borrow.Author.Tests.{lt-ltb}
 use Rattle.std.specs.Option.{option_map}
@@ -20,11 +20,6 @@ pub empty_within : (bytes : List ℕ) → empty_line_len bytes ≤ length bytes
 empty_within [] = omega arith
 empty_within (a ∷ []) = first_within (a == 10)
 empty_within (a ∷ b ∷ bytes) = two_within (a == 10) ((a == 13) && (b == 10)) (length bytes)
-
--- what was found behind one more byte
-pub shift_one : (i : ℕ) (o : Option ℕ) → option_map (λ n. i + n) (option_map suc o) ≡ option_map (λ n. (i + 1) + n) o
-shift_one i None = refl
-shift_one i (Some n) = ap Some (omega arith)
 
 pub shift_none : (o : Option ℕ) → o ≡ option_map (λ n. 0 + n) o
 shift_none None = refl
@@ -51,20 +46,6 @@ search_cons true a rest e = ap (λ (n : ℕ). cond (nat_lt 0 n) (Some n) (option
 
 pub search_found : (a : ℕ) (rest : List ℕ) → 0 < empty_line_len (a ∷ rest) → len_through_empty true (a ∷ rest) ≡ Some (empty_line_len (a ∷ rest))
 search_found a rest h = ap (λ t. cond t (Some (empty_line_len (a ∷ rest))) (option_map suc (len_through_empty (a == 10) rest))) (lt-ltb 0 (empty_line_len (a ∷ rest)) h)
-
--- the search goes on behind a byte at which it did not end
-pub search_step : (starts : Bool) (i : ℕ) (bytes : List ℕ) → i < length bytes → (starts ≡ true → empty_line_len (drop i bytes) ≡ 0)
-    → len_through_empty starts (drop i bytes) ≡ option_map suc (len_through_empty (get_or bytes i 0 == 10) (drop (i + 1) bytes))
-search_step starts i bytes h e =
-    let front : drop i bytes ≡ get_or bytes i 0 ∷ drop (i + 1) bytes = rw add-one (drop-cons bytes i 0 h) in
-    rw front (search_cons starts (get_or bytes i 0) (drop (i + 1) bytes) (λ t. ap empty_line_len (sym front) ∙ e t))
-
-search_ends_at : (bytes : List ℕ) → 0 < empty_line_len bytes → len_through_empty true bytes ≡ Some (empty_line_len bytes)
-search_ends_at [] h = absurd (omega arith)
-search_ends_at (a ∷ rest) h = search_found a rest h
-
-pub search_ends : (i : ℕ) (bytes : List ℕ) → 0 < empty_line_len (drop i bytes) → len_through_empty true (drop i bytes) ≡ Some (empty_line_len (drop i bytes))
-search_ends i bytes h = search_ends_at (drop i bytes) h
 
 -- behind the first empty line the others follow
 pub blank_more : (i : ℕ) (bytes : List ℕ) (n : ℕ) → n ≡ empty_line_len (drop i bytes) → 0 < n → blank_len (drop i bytes) ≡ n + blank_len (drop (i + n) bytes)

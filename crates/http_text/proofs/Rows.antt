@@ -9,7 +9,7 @@ use Rattle.http_text.specs.declared.lines.TheConstants.{PART_LIMIT}
 use Rattle.http_text.specs.declared.request.TheConstants.{FIELD_LIMIT}
 use Rattle.http_text.specs.declared.request.HeadVerdict.{HeadVerdict}
 use Rattle.http_text.specs.declared.request.HeadVerdict.TheVariants.{Refused, Close, Post as Posted}
-use Rattle.http_text.specs.declared.request.RequestRefusal.TheVariants.{BadRequest, NotFound, MethodNotAllowed, Forbidden, UnsupportedMediaType, NeitherMediaType, GzipIsOff, UnsupportedCoding, BodyTooLarge}
+use Rattle.http_text.specs.declared.request.RequestRefusal.TheVariants.{BadRequest, NotFound, MethodNotAllowed, Forbidden, UnsupportedMediaType, NeitherMediaType, GzipIsOff, UnsupportedCoding, NeitherCoding, BodyTooLarge}
 use Rattle.http_text.specs.declared.request.Framing.TheVariants.{Length, Chunked}
 use Rattle.http_text.specs.Body.{BySize, waits, refuses}
 use Rattle.http_text.specs.Lines.{head_len, trailer_len, line_len, blank_len}
@@ -353,13 +353,14 @@ takings : is_taken with_gzip (gzip_field ∷ []) ∷ is_taken by_default (gzip_f
 unfolding gzip_field coded trim_ows
 takings = refl
 
--- why a coding isn't taken: gzip where it is off, and any other; another type goes before a coding
+-- why a coding isn't taken: gzip where it is off, and any other, there and where gzip is taken; another type goes before
+-- a coding
 refused_codings : posted by_default (codes "POST") (json_field ∷ coded (codes "x-gzip") ∷ []) (Length 5)
     ∷ posted by_default (codes "POST") (json_field ∷ coded (codes "zstd") ∷ []) (Length 5)
     ∷ posted with_gzip (codes "POST") (json_field ∷ coded (codes "zstd") ∷ []) (Length 5)
     ∷ posted with_gzip (codes "POST") (json_field ∷ gzip_field ∷ gzip_field ∷ []) (Length 5)
     ∷ posted by_default (codes "POST") (coded (codes "gzip") ∷ []) (Length 5) ∷ []
-    ≡ Refused GzipIsOff false ∷ Refused UnsupportedCoding false ∷ Refused UnsupportedCoding false ∷ Refused UnsupportedCoding false
+    ≡ Refused GzipIsOff false ∷ Refused UnsupportedCoding false ∷ Refused NeitherCoding false ∷ Refused NeitherCoding false
     ∷ Refused UnsupportedMediaType false ∷ []
 unfolding json_field gzip_field coded trim_ows
 refused_codings = refl
@@ -375,7 +376,7 @@ unfolding json_field gzip_field trim_ows
 gzip_beyond_the_limit = refl
 
 deflate_beyond_the_limit : posted with_gzip (codes "POST") (json_field ∷ coded (codes "deflate") ∷ []) (Length 4194305)
-    ≡ Refused UnsupportedCoding false
+    ≡ Refused NeitherCoding false
 unfolding json_field coded trim_ows
 deflate_beyond_the_limit = refl
 

@@ -21,11 +21,6 @@ use Rattle.http_text.specs.Search.{ends, step, IsStep, Searched, IsEnding, IsCut
 use Rattle.http_text.proofs.LineLemmas.{blank_end, blank_step, search_cons, search_found}
 use Rattle.http_text.proofs.FieldLemmas.{position_cons}
 
--- how the lengths add up
-map_zero : (o : Option ℕ) → option_map (λ k. 0 + k) (option_map suc o) ≡ option_map (λ k. 1 + k) o
-map_zero None = refl
-map_zero (Some n) = ap Some (omega arith)
-
 map_one : (o : Option ℕ) → option_map suc o ≡ option_map (λ k. 1 + k) o
 map_one None = refl
 map_one (Some n) = ap Some (omega arith)

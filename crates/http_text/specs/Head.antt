@@ -10,7 +10,7 @@ use Rattle.http_text.specs.declared.request.TheConstants.{FIELD_LIMIT}
 use Rattle.http_text.specs.declared.request.Framing.{Framing}
 use Rattle.http_text.specs.declared.request.Framing.TheVariants.{Length, Chunked}
 use Rattle.http_text.specs.declared.request.RequestRefusal.{RequestRefusal}
-use Rattle.http_text.specs.declared.request.RequestRefusal.TheVariants.{HeadTooLarge, BadRequest, NotFound, MethodNotAllowed, Forbidden, UnsupportedMediaType, NeitherMediaType, GzipIsOff, UnsupportedCoding, BodyTooLarge}
+use Rattle.http_text.specs.declared.request.RequestRefusal.TheVariants.{HeadTooLarge, BadRequest, NotFound, MethodNotAllowed, Forbidden, UnsupportedMediaType, NeitherMediaType, GzipIsOff, UnsupportedCoding, NeitherCoding, BodyTooLarge}
 use Rattle.http_text.specs.declared.request.HeadVerdict.{HeadVerdict}
 use Rattle.http_text.specs.declared.request.HeadVerdict.TheVariants.{Refused, Close, Post as Posted}
 use Rattle.http_text.specs.Host.{has_host}
@@ -33,8 +33,8 @@ fits limit (Length n) = nat_le n limit
 fits limit Chunked = true
 
 -- why a coding isn't taken
-abbrev pub coding_refusal : (is_packed : Bool) → RequestRefusal
-coding_refusal is_packed = if is_packed then GzipIsOff else UnsupportedCoding
+abbrev pub coding_refusal : (takes_gzip is_packed : Bool) → RequestRefusal
+coding_refusal takes_gzip is_packed = if takes_gzip then NeitherCoding else (if is_packed then GzipIsOff else UnsupportedCoding)
 
 -- why a media type isn't taken
 abbrev pub type_refusal : (takes_protobuf : Bool) → RequestRefusal
@@ -43,7 +43,7 @@ type_refusal takes_protobuf = if takes_protobuf then NeitherMediaType else Unsup
 -- a request for the traces whose body is written in this, by its other fields
 abbrev pub posted_in : Encoding → Allowed → List ℕ → List Header → Framing → HeadVerdict
 posted_in encoding allowed method headers framed =
-    if not (is_taken allowed headers) then refused method (coding_refusal (is_packed headers))
+    if not (is_taken allowed headers) then refused method (coding_refusal allowed.gzip (is_packed headers))
     else (if not (fits allowed.body_limit framed) then refused method BodyTooLarge
     else Posted (record { framing = framed; encoding = encoding; expects_continue = expects_continue headers; is_packed = is_packed headers; says_close = says_close headers }))
 

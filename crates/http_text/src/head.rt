@@ -141,10 +141,12 @@ fn closing(method: &[u8], text: &[u8], headers: &[HeaderSpan]) -> HeadVerdict
 }
 
 /// Why a coding isn't taken.
-fn coding_refusal(is_packed: bool) -> RequestRefusal
-    ensures { result ≡ coding_refusal is_packed }
+fn coding_refusal(takes_gzip: bool, is_packed: bool) -> RequestRefusal
+    ensures { result ≡ coding_refusal takes_gzip is_packed }
 {
-    if is_packed {
+    if takes_gzip {
+        RequestRefusal::NeitherCoding
+    } else if is_packed {
         RequestRefusal::GzipIsOff
     } else {
         RequestRefusal::UnsupportedCoding
@@ -192,7 +194,8 @@ fn posted_in(
     ensures { result ≡ posted_in encoding allowed method.now (map (header_bytes text.now) headers.now) framed }
 {
     if !is_taken(allowed, text, headers) {
-        return refused(method, coding_refusal(is_packed(text, headers)));
+        let refusal = coding_refusal(allowed.gzip, is_packed(text, headers));
+        return refused(method, refusal);
     }
     if matches!(framed, Framing::Length(len) if len > allowed.body_limit as usize) {
         return refused(method, RequestRefusal::BodyTooLarge);

@@ -25,8 +25,10 @@ pub enum RequestRefusal {
     NeitherMediaType,
     /// 415: packed by gzip, which isn't taken.
     GzipIsOff,
-    /// 415: another coding of the content.
+    /// 415: another coding of the content, where `identity` alone is taken.
     UnsupportedCoding,
+    /// 415: a coding of the content that is neither `identity` nor one `gzip`.
+    NeitherCoding,
     /// 413: a body above the limit, as it comes or unpacked.
     BodyTooLarge,
     /// 400: a body that says to be gzip, and isn't (RFC 1952).
@@ -51,7 +53,7 @@ impl fmt::Display for RequestRefusal {
                 f.write_str("the content is neither JSON nor protobuf")
             }
             RequestRefusal::GzipIsOff => f.write_str("the content is gzip, which is off"),
-            RequestRefusal::UnsupportedCoding => {
+            RequestRefusal::UnsupportedCoding | RequestRefusal::NeitherCoding => {
                 f.write_str("the content has a coding that is not taken")
             }
             RequestRefusal::BodyTooLarge => f.write_str("the body is too large"),

@@ -96,11 +96,6 @@ module _ (s : Settings) (e : Entry) (before : Journal) (more : List (List Bool))
   pub standing-same : (noted : Notes) → standing_by s (other ∷ before) noted ≡ standing_by s (e ∷ before) noted
   standing-same noted = rw (ends-same s.senders, mark-same e.item) refl
 
--- what is due doesn't turn on answers
-pub due-answered : (s : Settings) (past : Journal) (answers : List Bool) → due_now s (answered past answers) ≡ due_now s past
-due-answered s [] answers = refl
-due-answered s (e ∷ before) answers = due-same s e before (e.answers ++ answers ∷ [])
-
 -- one more decision is dealt with, by its answers
 pub decisions-answered : (s : Settings) (e : Entry) (before : Journal) (k : ℕ) (answers : List Bool) (o : Opening) (rest : List Opening) → let past : Journal = e ∷ before in
     drop k (due_now s past) ≡ o ∷ rest → IsAnsweredUpTo s past k → take (suc k) (decisions_now s (answered past answers)) ≡ take k (decisions_now s past) ++ decision s past o answers ∷ []

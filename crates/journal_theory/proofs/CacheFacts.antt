@@ -156,9 +156,6 @@ same_verdicts Sampled NotSampled e = absurd (cc e)
 same_verdicts NotSampled Sampled e = absurd (cc e)
 same_verdicts NotSampled NotSampled e = refl
 
-latest_same : (noted : Notes) (t x : TraceId) → same_trace t x ≡ true → latest_episode noted x ≡ latest_episode noted t
-latest_same noted t x e = ap (latest_episode noted) (sym (same_trace-is t x e))
-
 -- a touch of another trace, or with another verdict, brings no trace into a cache
 pub still_in : (s : Settings) (noted m : Notes) (u : Touch) (v : Verdict) (x : TraceId) → m.touches ≡ u ∷ noted.touches → (b : Bool) → is_same_verdict u.verdict v ≡ b → (b ≡ true → same_trace u.trace x ≡ false) → in_cache s m v x ≡ true → in_cache s noted v x ≡ true
 still_in s noted m u v x q true k f e = go (in_cache s noted v x) refl

@@ -1,7 +1,7 @@
 -- What is due in every journal, and how it is decided in turn.
 -- For the contracts of `decides_standing` and `keeps_standing`.
 use Rattle.std.proofs.Common.{◌≡◌, ℕ, zero, suc, ◌+◌, ◌<◌, ◌≤◌, ◌==◌, nat_lt, nat_le, Bool, true, false, ◌&&◌, ◌||◌, cond, List, [], ◌∷◌, ◌++◌, map, reverse, length, take, drop, Option, Some, None, option_to_list, refl, sym, ap, subst, ◌∙◌, arith, append_assoc, add-one}
-use Rattle.std.specs.List.{list_any, list_all, filter, find, slice_set}
+use Rattle.std.specs.List.{list_all, filter, find, slice_set}
 use Rattle.std.specs.Option.{option_map, is_none}
 use Rattle.std.proofs.lemmas.List.{reverse-reverse, length_push, set-append_left, set_past}
 use Rattle.std.proofs.lemmas.List.Folds.{list_all-append}
@@ -39,9 +39,6 @@ eqb-above m n h = grind (arith, nat_tests)
 pub leb-not : (m n : ℕ) → n < m → nat_le m n ≡ false
 leb-not m n h = grind (arith, nat_tests)
 
-pub not-leb : (m n : ℕ) → nat_le m n ≡ false → n < m
-not-leb m n h = grind (arith, nat_tests)
-
 abbrev pub OtherPlace : Opening → Opening → Type 0
 OtherPlace o p = ((o.at == p.at) ≡ false) × ((p.at == o.at) ≡ false)
 
@@ -56,30 +53,7 @@ module _ (s : Settings) (room : HasRoom s.num_traces) where
       Pairs-weaker (λ x y. IsOlder y x) OtherPlace (front noted) (λ x y l. (eqb-below x.at y.at l, eqb-above x.at y.at l))
       (Pairs-reverse IsOlder (in_buffer s noted) (Pairs-left IsOlder (in_buffer s noted) f.0 (rw f.1 at (h.ordered))))
 
-  pub front-below : (J : Journal) (noted : Notes) → Sound s J noted → Each (λ o. o.at < length J) (front noted)
-  front-below J noted h =
-      let f = buffer_front s.num_traces noted.openings in
-      Each-reverse (λ (o : Opening). o.at < length J) (in_buffer s noted) (Each-left (λ (o : Opening). o.at < length J) (in_buffer s noted) f.0 (rw f.1 at (h.below)))
-
   -- ---- an item changes no decision
-
-  decisions-found : (noted : Notes) (n now : ℕ) (t : TraceId) (lost : Bool) (f : Finding) → (after_finding s t lost n now noted f).decisions ≡ noted.decisions
-  decisions-found noted n now t lost (joins o) = refl
-  decisions-found noted n now t lost (meets o v) = refl
-  decisions-found noted n now t lost opens = refl
-
-  decisions-refused : (noted m : Notes) (refused : Bool) → m.decisions ≡ noted.decisions → (cond refused noted m).decisions ≡ noted.decisions
-  decisions-refused noted m true e = refl
-  decisions-refused noted m false e = e
-
-  decisions-span : (e : Entry) (before : Journal) (noted : Notes) (ids : Option Ids) → (after_span s ids e before noted).decisions ≡ noted.decisions
-  decisions-span e before noted None = refl
-  decisions-span e before noted (Some ids) = decisions-refused noted _ e.refused (decisions-found noted (length before) (clock (e ∷ before)) ids.trace e.lost (finding s noted ids.trace))
-
-  pub decisions-item : (e : Entry) (before : Journal) (noted : Notes) (item : Item) → (after_item s e before item noted).decisions ≡ noted.decisions
-  decisions-item e before noted (Span a) = decisions-span e before noted a.rec.span.ids
-  decisions-item e before noted (Tick m) = refl
-  decisions-item e before noted (End sender) = refl
 
   -- ---- the clock, the mark and the ends
 
@@ -395,10 +369,6 @@ module _ (s : Settings) (room : HasRoom s.num_traces) where
       by : (v : Option Verdict) → (is_none v && (fin || (nat_le (o.moment + s.decision_wait) m || is_root_due m s.root_wait (root_left (first_root_since past o) v) || is_too_big s.maximum_trace_size (spans_left (spans_since past o) v)))) ≡ (is_none v && (fin || (ripe past m o || is_oversized s past o)))
       by None = refl
       by (Some v) = refl
-
-  any-episodes : (past : Journal) (noted : Notes) (fin : Bool) (m : ℕ) (os : List Opening) → list_any (is_due_by fin m s.decision_wait s.root_wait) (map (episode s past noted) os) ≡ list_any (due_by fin m past noted) os
-  any-episodes past noted fin m [] = refl
-  any-episodes past noted fin m (o ∷ os) = ap (λ b. b || list_any (is_due_by fin m s.decision_wait s.root_wait) (map (episode s past noted) os)) (episode-due past noted fin m o) ∙ ap (λ b. due_by fin m past noted o || b) (any-episodes past noted fin m os)
 
   find-episode : (past : Journal) (noted : Notes) (fin : Bool) (m : ℕ) (o : Opening) (os : List Opening) (b : Bool) → due_by fin m past noted o ≡ b →
       find (is_due_by fin m s.decision_wait s.root_wait) (map (episode s past noted) os) ≡ option_map (episode s past noted) (find (due_by fin m past noted) os) →

@@ -275,9 +275,6 @@ module _ (s : Settings) (m : ℕ) (lim : s.num_traces ≡ Some (suc m)) (past : 
       (ap (λ n. take n (last_touched NotSampled (touch p v ∷ noted.touches))) (sym sizes.1) ∙ sym stands.1.0)
       (sym sizes.0) (sym sizes.1)
 
-  touches_after : (lost : Bool) → Option Opening → List Touch
-  touches_after lost r = cond lost [] (touch_of_leaving noted r) ++ noted.touches
-
   opens_caches_decided : (lost : Bool) (p : Opening) → slice_get noted.openings m ≡ Some p → (d : Option Verdict) → decided_as noted p.at ≡ d →
       caches_of (opened (cond lost [] (touch_of_leaving_decided p d) ++ noted.touches)) ≡ after_leaving_decided lost p.trace d (caches s held)
   opens_caches_decided true p e None d = refl

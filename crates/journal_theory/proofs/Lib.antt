@@ -11,6 +11,7 @@ pub mod StandingParts
 pub mod Keeping
 pub mod Answering
 pub mod Counted
+pub mod Samples
 mod Rows
 pub mod Deciding
 pub mod RootWait

@@ -1,26 +1,15 @@
 -- Lists whose members are all so, or all different.
 -- For the contracts of `decides_standing` and `keeps_standing`.
-use Rattle.std.proofs.Common.{◌≡◌, ℕ, zero, suc, ◌+◌, ◌<◌, ◌≤◌, nat_lt, Bool, true, false, not, ◌&&◌, ◌||◌, cond, List, [], ◌∷◌, ◌++◌, reverse, length, drop, Option, Some, None, refl, sym, ap, subst, ◌∙◌, arith, append-nil}
+use Rattle.std.proofs.Common.{◌≡◌, ℕ, suc, ◌+◌, Bool, true, false, ◌&&◌, ◌||◌, cond, List, [], ◌∷◌, ◌++◌, reverse, length, drop, Option, Some, None, refl, ap, subst, arith, append-nil}
 use Rattle.journal_theory.proofs.ListFacts.{Each, Pairs as Apart}
-use Rattle.std.specs.List.{list_any, filter, find, position, position_or_len, slice_get, slice_set}
+use Rattle.std.specs.List.{list_any, filter, find}
 use Rattle.std.specs.Option.{option_or}
 use Rattle.std.proofs.lemmas.List.{reverse-append}
 use Rattle.std.proofs.lemmas.List.Elements.{filter-append}
-use Rattle.std.proofs.lemmas.List.Folds.{find-append, find_at}
-use Rattle.std.proofs.lemmas.Bool.Decides.{nat_tests}
-use Rattle.std.proofs.lemmas.Option.{slice_get_past}
 
 pub or-true : (b : Bool) → (b || true) ≡ true
 or-true true = refl
 or-true false = refl
-
-pub or-false : (b : Bool) → (b || false) ≡ b
-or-false true = refl
-or-false false = refl
-
-pub and-false : (b : Bool) → (b && false) ≡ false
-and-false true = refl
-and-false false = refl
 
 pub one-add : (n : ℕ) → 1 + n ≡ suc n
 one-add n = omega arith
@@ -41,14 +30,6 @@ module _ {X : Type 0} where
   pub Each-all : (P : X → Type 0) → ((x : X) → P x) → (xs : List X) → Each P xs
   Each-all P f [] = tt
   Each-all P f (x ∷ xs) = (f x, Each-all P f xs)
-
-  pub Apart-push : (R : X → X → Type 0) (xs : List X) (y : X) → Apart R xs → Each (λ x. R x y) xs → Apart R (xs ++ y ∷ [])
-  Apart-push R [] y a b = (tt, tt)
-  Apart-push R (x ∷ xs) y a b = (Each-append (R x) xs (y ∷ []) a.0 (b.0, tt), Apart-push R xs y a.1 b.1)
-
-  pub Apart-weaken : (R S : X → X → Type 0) → ((x y : X) → R x y → S x y) → (xs : List X) → Apart R xs → Apart S xs
-  Apart-weaken R S f [] a = tt
-  Apart-weaken R S f (x ∷ xs) a = (Each-weaken (R x) (S x) (f x) xs a.0, Apart-weaken R S f xs a.1)
 
   pub reverse-cons : (x : X) (xs : List X) → reverse (x ∷ xs) ≡ reverse xs ++ x ∷ []
   reverse-cons x xs = reverse-append (x ∷ []) xs
@@ -98,13 +79,6 @@ module _ {X : Type 0} where
   abbrev pub Single : (X → Bool) → List X → Type 0
   Single p xs = Apart (λ x y. p x ≡ true → p y ≡ true → ⊥) xs
 
-  pub find-none : (p : X → Bool) (xs : List X) → Each (λ x. p x ≡ true → ⊥) xs → find p xs ≡ None
-  find-none p [] a = refl
-  find-none p (x ∷ xs) a = (elim (p x) as (λ b. p x ≡ b → cond b (Some x) (find p xs) ≡ None) [
-    | true ↦ λ h. absurd (a.0 h)
-    | false ↦ λ h. find-none p xs a.1
-  ]) refl
-
   pub Each-from_find : (p : X → Bool) (xs : List X) → find p xs ≡ None → Each (λ x. p x ≡ false) xs
   Each-from_find p [] e = tt
   Each-from_find p (x ∷ xs) e = (elim (p x) as (λ b. p x ≡ b → cond b (Some x) (find p xs) ≡ None → (p x ≡ false) × Each (λ x. p x ≡ false) xs) [
@@ -115,14 +89,6 @@ module _ {X : Type 0} where
   option_or-none : (o : Option X) → option_or o None ≡ o
   option_or-none None = refl
   option_or-none (Some x) = refl
-
-  find-one : (p : X → Bool) (x : X) (xs : List X) (b : Bool) → p x ≡ b → (p x ≡ true → Each (λ y. p y ≡ true → ⊥) xs) → find p (reverse xs) ≡ find p xs → find p (reverse (x ∷ xs)) ≡ find p (x ∷ xs)
-  find-one p x xs true h a ih = rw (reverse-cons x xs, find-append p (reverse xs) (x ∷ []), ih, find-none p xs (a h), h)
-  find-one p x xs false h a ih = rw (reverse-cons x xs, find-append p (reverse xs) (x ∷ []), ih, h) (option_or-none (find p xs))
-
-  pub find-reverse : (p : X → Bool) (xs : List X) → Single p xs → find p (reverse xs) ≡ find p xs
-  find-reverse p [] a = refl
-  find-reverse p (x ∷ xs) a = find-one p x xs (p x) refl (λ h. Each-weaken (λ y. p x ≡ true → p y ≡ true → ⊥) (λ y. p y ≡ true → ⊥) (λ y f. f h) xs a.0) (find-reverse p xs a.1)
 
   -- what is found passes
   pub find-passes : (p : X → Bool) (xs : List X) (y : X) → find p xs ≡ Some y → p y ≡ true
@@ -140,14 +106,6 @@ module _ {X : Type 0} where
     | false ↦ λ e. find-each P p xs y a.1 e
   ]) e
 
-  -- a test that what is found passes is passed by some member
-  pub any-found : (p q : X → Bool) (xs : List X) (y : X) → find p xs ≡ Some y → q y ≡ true → list_any q xs ≡ true
-  any-found p q [] y e t = cc
-  any-found p q (x ∷ xs) y e t = (elim (p x) as (λ b. cond b (Some x) (find p xs) ≡ Some y → list_any q (x ∷ xs) ≡ true) [
-    | true ↦ λ e. let same : x ≡ y = cc in rw (subst (λ z. q z ≡ true) (sym same) t)
-    | false ↦ λ e. rw (any-found p q xs y e t) (or-true (q x))
-  ]) e
-
   pub Each-reverse : (P : X → Type 0) (xs : List X) → Each P xs → Each P (reverse xs)
   Each-reverse P [] a = tt
   Each-reverse P (x ∷ xs) a = rw (reverse-cons x xs) (Each-append P (reverse xs) (x ∷ []) (Each-reverse P xs a.1) (a.0, tt))
@@ -156,25 +114,11 @@ module _ {X : Type 0} where
   drop-length [] = refl
   drop-length (x ∷ xs) = drop-length xs
 
-  pub find-filter : (p : X → Bool) (xs : List X) (y : X) (ys : List X) → filter p xs ≡ y ∷ ys → find p xs ≡ Some y
-  find-filter p [] y ys e = cc
-  find-filter p (x ∷ xs) y ys e = (elim (p x) as (λ b. cond b (x ∷ filter p xs) (filter p xs) ≡ y ∷ ys → cond b (Some x) (find p xs) ≡ Some y) [
-    | true ↦ λ e. cc
-    | false ↦ λ e. find-filter p xs y ys e
-  ]) e
-
   pub filter-from_find : (p : X → Bool) (xs : List X) (y : X) → find p xs ≡ Some y → (ys : List X) × (filter p xs ≡ y ∷ ys)
   filter-from_find p [] y e = cc
   filter-from_find p (x ∷ xs) y e = (elim (p x) as (λ b. cond b (Some x) (find p xs) ≡ Some y → (ys : List X) × (cond b (x ∷ filter p xs) (filter p xs) ≡ y ∷ ys)) [
     | true ↦ λ e. let same : x ≡ y = cc in (filter p xs, ap (λ z. z ∷ filter p xs) same)
     | false ↦ λ e. filter-from_find p xs y e
-  ]) e
-
-  pub none-from_any : (p : X → Bool) (xs : List X) → list_any p xs ≡ false → filter p xs ≡ []
-  none-from_any p [] e = refl
-  none-from_any p (x ∷ xs) e = (elim (p x) as (λ b. (b || list_any p xs) ≡ false → cond b (x ∷ filter p xs) (filter p xs) ≡ []) [
-    | true ↦ λ e. cc
-    | false ↦ λ e. none-from_any p xs e
   ]) e
 
   pub none-from_find : (p : X → Bool) (xs : List X) → find p xs ≡ None → filter p xs ≡ []
@@ -186,54 +130,9 @@ module _ {X : Type 0} where
   set_first p f [] = []
   set_first p f (x ∷ xs) = cond (p x) (f x ∷ xs) (x ∷ set_first p f xs)
 
-  pub set-position : (p : X → Bool) (f : X → X) (xs : List X) (y : X) → find p xs ≡ Some y → slice_set xs (position_or_len p xs) (f y) ≡ set_first p f xs
-  set-position p f [] y e = cc
-  set-position p f (x ∷ xs) y e = (elim (p x) as (λ b. cond b (Some x) (find p xs) ≡ Some y → slice_set (x ∷ xs) (cond (not b) (1 + position_or_len p xs) 0) (f y) ≡ cond b (f x ∷ xs) (x ∷ set_first p f xs)) [
-    | true ↦ λ e. let same : x ≡ y = cc in ap (λ z. f z ∷ xs) (sym same)
-    | false ↦ λ e. rw (one-add (position_or_len p xs)) (ap (λ zs. x ∷ zs) (set-position p f xs y e))
-  ]) e
-
-  position_is : (p : X → Bool) (xs : List X) (b : Bool) (i : ℕ) → cond b (Some (position_or_len p xs)) None ≡ Some i → position_or_len p xs ≡ i
-  position_is p xs true i e = cc
-  position_is p xs false i e = cc
-
-  -- what is at the first position
-  pub position-some : (p : X → Bool) (xs : List X) (i : ℕ) → position p xs ≡ Some i → (position_or_len p xs ≡ i) × (find p xs ≡ slice_get xs i)
-  position-some p xs i e = let same = position_is p xs (nat_lt (position_or_len p xs) (length xs)) i e in (same, find_at p xs ∙ ap (slice_get xs) same)
-
-  position-past : (p : X → Bool) (xs : List X) (b : Bool) → nat_lt (position_or_len p xs) (length xs) ≡ b → cond b (Some (position_or_len p xs)) None ≡ None → length xs ≤ position_or_len p xs
-  position-past p xs true h e = cc
-  position-past p xs false h e = grind (arith, nat_tests)
-
-  pub position-none : (p : X → Bool) (xs : List X) → position p xs ≡ None → find p xs ≡ None
-  position-none p xs e = find_at p xs ∙ slice_get_past xs (position_or_len p xs) (position-past p xs (nat_lt (position_or_len p xs) (length xs)) refl e)
-
   pub find-from_any : (p : X → Bool) (xs : List X) → list_any p xs ≡ false → find p xs ≡ None
   find-from_any p [] e = refl
   find-from_any p (x ∷ xs) e = (elim (p x) as (λ b. (b || list_any p xs) ≡ false → cond b (Some x) (find p xs) ≡ None) [
     | true ↦ λ e. cc
     | false ↦ λ e. find-from_any p xs e
-  ]) e
-
-  slice_get-within : (xs : List X) (i : ℕ) → i < length xs → (y : X) × (slice_get xs i ≡ Some y)
-  slice_get-within [] i h = absurd (omega (arith, h))
-  slice_get-within (x ∷ xs) zero h = (x, refl)
-  slice_get-within (x ∷ xs) (suc i) h = slice_get-within xs i (omega (arith, h))
-
-  position-within : (p : X → Bool) (xs : List X) (i : ℕ) (b : Bool) → nat_lt (position_or_len p xs) (length xs) ≡ b → cond b (Some (position_or_len p xs)) None ≡ Some i → i < length xs
-  position-within p xs i true h e = let same : position_or_len p xs ≡ i = cc in grind (arith, nat_tests)
-  position-within p xs i false h e = cc
-
-  pub position-found : (p : X → Bool) (xs : List X) (i : ℕ) → position p xs ≡ Some i → (i < length xs) × ((y : X) × (slice_get xs i ≡ Some y) × (find p xs ≡ Some y) × (position_or_len p xs ≡ i))
-  position-found p xs i e =
-      let within = position-within p xs i (nat_lt (position_or_len p xs) (length xs)) refl e in
-      let got = slice_get-within xs i within in
-      let w = position-some p xs i e in
-      (within, (got.0, got.1, w.1 ∙ got.1, w.0))
-
-  pub any-none : (p : X → Bool) (xs : List X) → find p xs ≡ None → list_any p xs ≡ false
-  any-none p [] e = refl
-  any-none p (x ∷ xs) e = (elim (p x) as (λ b. cond b (Some x) (find p xs) ≡ None → (b || list_any p xs) ≡ false) [
-    | true ↦ λ e. cc
-    | false ↦ λ e. any-none p xs e
   ]) e

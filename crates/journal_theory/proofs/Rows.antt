@@ -12,6 +12,7 @@ use Rattle.journal_theory.specs.Fate.{Fate, waits, is_released, is_counted, effe
 use Rattle.trace_buffer.specs.Buffer.{Episode}
 use Rattle.span_size.specs.Size.{size_of}
 use Rattle.journal_theory.specs.Standing.{Standing, standing}
+use Rattle.journal_theory.proofs.Samples.{plain_settings}
 use Rattle.otlp_types.specs.declared.arrival.Arrival.{Arrival}
 use Rattle.otlp_types.specs.declared.arrival.Item.{Item}
 use Rattle.otlp_types.specs.declared.arrival.Item.TheVariants.{Span, Tick, End}
@@ -56,7 +57,7 @@ always = one_more (leaf AlwaysSample) no_more
 
 -- two senders, a wait of ten seconds
 abbrev settings : Policies → (num_traces : Option ℕ) → (sampled non_sampled : ℕ) → Settings
-settings policies num_traces sampled non_sampled = record { policies = policies; decision_wait = 10000; root_wait = 0; maximum_trace_size = 0; num_traces = num_traces; sampled_cache_size = sampled; non_sampled_cache_size = non_sampled; senders = 2 }
+settings policies num_traces sampled non_sampled = record (plain_settings policies) { decision_wait = 10000; num_traces = num_traces; sampled_cache_size = sampled; non_sampled_cache_size = non_sampled }
 
 -- no limit, and no caches
 abbrev plain : Settings

@@ -2,7 +2,7 @@
 ghost use Rattle.std.specs.Prelude.{◌≡◌, ◌<◌, ◌≤◌, Some, IfOk, length, ⊤};
 ghost use Rattle.lane_turns.specs.Driving.{FitsNext};
 
-use crate::link::{ConnectionSocket, Got, Looked, Phase, SocketStep};
+use crate::link::{ConnectionSocket, Got, Looked, Phase, SocketStep, TurnResult};
 use crate::links::Links;
 use crate::loads::ConnectionShare;
 use crate::readiness::{Accepted, EVENTS, NAP, Readiness, Ready};
@@ -140,17 +140,14 @@ impl<'l, P: HasStopMark> TurnDriver<'l, P> {
                 if !link.flush(now) {
                     return self.leave(place, key, Leaving::WriteFailed);
                 }
-                if !link.outgoing.is_empty() {
-                    SocketStep::Waits
-                } else if reads == 0 {
-                    SocketStep::GoesOn
-                } else {
-                    match link.receive(piece) {
+                match link.before_read(reads) {
+                    Some(step) => step,
+                    None => match link.receive(piece) {
                         Got::Bytes(len) => return self.came(place, key, len),
                         Got::Nothing => SocketStep::Waits,
                         Got::End => return self.leave(place, key, Leaving::Over),
                         Got::Fault => return self.leave(place, key, Leaving::ReadFailed),
-                    }
+                    },
                 }
             }
         };
@@ -391,28 +388,27 @@ impl<'l, P: HasStopMark> TurnDriver<'l, P> {
 
     /// The connection of the link at the place that was told had a turn.
     fn turned(&mut self, end: Option<ServeEnd>, due: u64, is_idle: bool, text: &[u8]) {
-        let (place, now) = (self.told, self.now);
+        let (place, moment) = (self.told, self.now);
         self.links.traffic().went(text);
         let Some(link) = self.links.get_mut(place) else {
             return;
         };
-        if !text.is_empty() && link.answer(text, now).is_err() {
-            let key = link.key;
-            self.forget(place);
-            if end.is_none() {
-                self.orphan = Some(key);
-            }
-            return;
-        }
-        match end {
-            Some(end) => {
-                let step = link.end(end, now);
-                self.goes(place, step);
-            }
-            None => {
-                link.due = due;
-                link.is_idle = is_idle;
-                self.watch_deadline(place);
+        let key = link.key;
+        let turn = TurnResult {
+            end,
+            due,
+            is_idle,
+            text,
+            moment,
+        };
+        match link.turned(&turn) {
+            Ok(Some(step)) => self.goes(place, step),
+            Ok(None) => self.watch_deadline(place),
+            Err(_) => {
+                self.forget(place);
+                if end.is_none() {
+                    self.orphan = Some(key);
+                }
             }
         }
     }

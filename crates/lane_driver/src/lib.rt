@@ -16,6 +16,7 @@ mod driver;
 mod link;
 mod links;
 mod loads;
+mod looks;
 mod outgoing;
 mod readiness;
 mod traffic;

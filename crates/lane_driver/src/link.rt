@@ -1,7 +1,9 @@
 //! A connection's socket.
-ghost use Rattle.std.specs.Prelude.{◌≡◌, ◌<◌, ◌≤◌, ℕ, [], length};
+ghost use Rattle.std.specs.Prelude.{◌≡◌, ◌<◌, ◌≤◌, ◌++◌, ℕ, List, [], None, Ok, OnOk, OnErr, IfOk, length};
+ghost use Rattle.lane_driver.specs.Looks.{before_read, deadline, is_sent, looked};
 
-use crate::outgoing::{Outgoing, SendResult};
+use crate::looks::{before_read, looked};
+use crate::outgoing::{Flushed, Outgoing};
 use http_lane::ServeEnd;
 use lane_turns::Leaving;
 use mio::net::TcpStream;
@@ -17,9 +19,6 @@ pub const LINGER_LIMIT: u64 = 1_000;
 
 /// The most bytes of it that are thrown away.
 pub const LINGER_BYTES: usize = 8_388_608;
-
-/// The most writes in one turn.
-const WRITES: usize = 64;
 
 /// The most reads that are thrown away in one turn.
 const THROWN: usize = 16;
@@ -57,6 +56,17 @@ pub enum Looked {
     Leaves(Leaving),
     /// It has a turn that brings nothing.
     HasTurn,
+}
+
+/// What a turn of a connection came to: its end, if it ended; when its time is over else, and whether no request is
+/// under way; and what is to be sent, at this moment.
+#[derive(Clone, Copy)]
+pub struct TurnResult<'t> {
+    pub end: Option<ServeEnd>,
+    pub due: u64,
+    pub is_idle: bool,
+    pub text: &'t [u8],
+    pub moment: u64,
 }
 
 /// What a read that doesn't wait gave.
@@ -106,7 +116,9 @@ impl ConnectionSocket {
     }
 
     /// When it is to be looked at though nothing is ready.
-    pub fn deadline(&self) -> u64 {
+    pub fn deadline(&self) -> u64
+        ensures { result ≡ deadline self.now.phase (is_sent self.now.outgoing) self.now.due self.now.since }
+    {
         if let Phase::Lingering { .. } = self.phase {
             return self.since.saturating_add(LINGER_LIMIT);
         }
@@ -117,32 +129,24 @@ impl ConnectionSocket {
     }
 
     /// What a look at it comes to now, where `stopping` is the moment from which on no request goes on.
-    pub fn looked_at(&self, now: u64, stopping: Option<u64>) -> Looked {
-        let is_blocked = !self.outgoing.is_empty();
-        let is_idle = self.is_idle && !is_blocked;
-        let is_cut = match stopping {
-            Some(moment) => now >= moment,
-            None => false,
-        };
-        let ends_idle = self.phase == Phase::Serving && is_idle && stopping.is_some();
-        if !is_cut && now < self.deadline() && !ends_idle {
-            return Looked::Waits(self.deadline());
-        }
-        if self.phase != Phase::Serving {
-            return Looked::Over;
-        }
-        // The collector closes, and no client may hold its end (D-177).
-        if is_cut && !is_idle {
-            return Looked::Leaves(Leaving::ReadFailed);
-        }
-        if is_blocked {
-            return Looked::Leaves(Leaving::WriteFailed);
-        }
-        Looked::HasTurn
+    pub fn looked_at(&self, now: u64, stopping: Option<u64>) -> Looked
+        ensures { result ≡ looked self.now.phase self.now.is_idle (is_sent self.now.outgoing) (deadline self.now.phase (is_sent self.now.outgoing) self.now.due self.now.since) now stopping }
+    {
+        looked(
+            self.phase,
+            self.is_idle,
+            self.outgoing.is_empty(),
+            self.deadline(),
+            now,
+            stopping,
+        )
     }
 
-    /// An answer is to be sent. `Err`: there is no memory to keep it.
-    pub fn answer(&mut self, text: &[u8], moment: u64) -> Result<(), AllocError> {
+    /// An answer is to be sent, behind those that weren't yet. `Err`: there is no memory to keep it.
+    pub fn answer(&mut self, text: &[u8], moment: u64) -> Result<(), AllocError>
+        ensures put { OnOk result (self.new.outgoing ≡ self.old.outgoing ++ text.now) }
+        ensures kept { OnErr result (self.new.outgoing ≡ self.old.outgoing) }
+    {
         if self.outgoing.is_empty() {
             self.since = moment;
         }
@@ -150,18 +154,40 @@ impl ConnectionSocket {
     }
 
     /// Sends what can be sent. `false`: it failed.
-    pub fn flush(&mut self, moment: u64) -> bool {
-        for _ in 0..WRITES {
-            if self.outgoing.is_empty() {
-                return true;
-            }
-            match self.outgoing.send(&mut self.stream) {
-                SendResult::Some => self.since = moment,
-                SendResult::Blocked => return true,
-                SendResult::Failed => return false,
-            }
+    pub fn flush(&mut self, moment: u64) -> bool
+        ensures { (sent : List ℕ) × (self.old.outgoing ≡ sent ++ self.new.outgoing) }
+    {
+        let Flushed { took, failed } = self.outgoing.flush(&mut self.stream);
+        if took {
+            self.since = moment;
         }
-        true
+        !failed
+    }
+
+    /// What it does before a read, if it doesn't read.
+    pub fn before_read(&self, reads: usize) -> Option<SocketStep>
+        ensures step { result ≡ before_read (is_sent self.now.outgoing) reads }
+        ensures sent { result ≡ None → self.now.outgoing ≡ [] }
+    {
+        before_read(self.outgoing.is_empty(), reads)
+    }
+
+    /// Its connection had a turn, with this to be sent behind the rest; where that ended it, how it goes on. `Err`:
+    /// there is no memory to keep that.
+    pub fn turned(&mut self, turn: &TurnResult<'_>) -> Result<Option<SocketStep>, AllocError>
+        ensures put { result ≡ Ok None → self.new.outgoing ≡ self.old.outgoing ++ turn.now.text.now }
+        ensures sends { IfOk result (λ _. (sent : List ℕ) × (self.old.outgoing ++ turn.now.text.now ≡ sent ++ self.new.outgoing)) }
+        ensures kept { OnErr result (self.new.outgoing ≡ self.old.outgoing) }
+    {
+        if !turn.text.is_empty() {
+            self.answer(turn.text, turn.moment)?;
+        }
+        let Some(end) = turn.end else {
+            self.due = turn.due;
+            self.is_idle = turn.is_idle;
+            return Ok(None);
+        };
+        Ok(Some(self.end(end, turn.moment)))
     }
 
     /// One read of a request. None is read before the answer to the one before it was sent.
@@ -173,7 +199,9 @@ impl ConnectionSocket {
     }
 
     /// Its connection has ended in the lane's table. An answer that closes is still to be sent.
-    pub fn end(&mut self, end: ServeEnd, moment: u64) -> SocketStep {
+    pub fn end(&mut self, end: ServeEnd, moment: u64) -> SocketStep
+        ensures { (sent : List ℕ) × (self.old.outgoing ≡ sent ++ self.new.outgoing) }
+    {
         // Behind every other end there is nothing to send.
         if end != ServeEnd::Answered {
             return SocketStep::Over;
@@ -183,7 +211,10 @@ impl ConnectionSocket {
     }
 
     /// Sends the rest of the last answer, and then tells the client that nothing more comes.
-    pub fn close(&mut self, moment: u64) -> SocketStep {
+    pub fn close(&mut self, moment: u64) -> SocketStep
+        ensures sends { (sent : List ℕ) × (self.old.outgoing ≡ sent ++ self.new.outgoing) }
+        ensures all { result ≡ SocketStep.GoesOn → self.new.outgoing ≡ [] }
+    {
         if !self.flush(moment) {
             return SocketStep::Over;
         }

@@ -105,7 +105,8 @@ impl Links {
 
     /// One more, and its place. `None`: there is no memory for it, or more are open than may be.
     pub fn insert(&mut self, link: ConnectionSocket) -> Option<usize>
-        ensures { IfSome result (λ _. slab_len self.new.slab ≤ self.new.limit + 1) }
+        ensures room { IfSome result (λ _. slab_len self.new.slab ≤ self.new.limit + 1) }
+        ensures limit { self.new.limit ≡ self.old.limit }
     {
         if self.is_beyond_limit() {
             return None;
@@ -117,13 +118,17 @@ impl Links {
     }
 
     /// Closes the socket at this place.
-    pub fn remove(&mut self, place: usize) {
+    pub fn remove(&mut self, place: usize)
+        ensures limit { self.new.limit ≡ self.old.limit }
+    {
         let _ = self.slab.try_remove(place);
         self.loads.set(self.lane, self.slab.len());
     }
 
     /// The link at this place is to be served.
-    pub fn list(&mut self, place: usize) {
+    pub fn list(&mut self, place: usize)
+        ensures limit { self.new.limit ≡ self.old.limit }
+    {
         let mut is_new = false;
         if let Some(link) = self.slab.get_mut(place) {
             is_new = !link.is_listed;
@@ -135,14 +140,18 @@ impl Links {
         }
     }
 
-    fn unlist(&mut self, place: usize) {
+    fn unlist(&mut self, place: usize)
+        ensures limit { self.new.limit ≡ self.old.limit }
+    {
         if let Some(link) = self.slab.get_mut(place) {
             link.is_listed = false;
         }
     }
 
     /// The place of the next of those that are to be served, which it is no more.
-    pub fn next_ready(&mut self) -> Option<usize> {
+    pub fn next_ready(&mut self) -> Option<usize>
+        ensures limit { self.new.limit ≡ self.old.limit }
+    {
         let place = self.ready.pop_front()?;
         self.unlist(place);
         Some(place)

@@ -1,6 +1,7 @@
 //! What is to be sent on a connection.
 ghost use Rattle.std.specs.Prelude.{◌≡◌, ◌≤◌, ◌++◌, ℕ, List, [], OnOk, OnErr, IsTrue, length, drop};
 ghost use Rattle.std.specs.Io.KnownBytes.{Appends};
+ghost use Rattle.lane_driver.specs.Looks.{is_sent};
 
 use std::alloc::{AllocError, Global};
 use std::io::{ErrorKind, Write};
@@ -15,6 +16,18 @@ pub enum SendResult {
     Blocked,
     /// It failed.
     Failed,
+}
+
+/// The most writes at once.
+const WRITES: usize = 64;
+
+/// What writes that don't wait came to.
+#[derive(Clone, Copy, PartialEq, Eq)]
+pub struct Flushed {
+    /// Some bytes were taken.
+    pub took: bool,
+    /// One failed.
+    pub failed: bool,
 }
 
 /// The bytes of answers that weren't sent yet, in their order. It has memory only while some wait.
@@ -49,7 +62,8 @@ impl Outgoing {
 
     /// Whether nothing is to be sent.
     pub fn is_empty(&self) -> bool
-        ensures { IsTrue result → self.now ≡ [] }
+        ensures sent { result ≡ is_sent self.now }
+        ensures empty { IsTrue result → self.now ≡ [] }
     {
         self.at == self.bytes.len()
     }
@@ -76,6 +90,27 @@ impl Outgoing {
                 ErrorKind::WouldBlock | ErrorKind::Interrupted => SendResult::Blocked,
                 _ => SendResult::Failed,
             },
+        }
+    }
+
+    /// Writes until nothing is left, nothing is taken for now, or one fails.
+    pub fn flush<W: Write>(&mut self, writer: &mut W) -> Flushed
+        ensures { (sent : List ℕ) × (self.old ≡ sent ++ self.new) × Appends (W.contents writer.old) (W.contents writer.new) sent }
+    {
+        let mut took = false;
+        for _ in 0..WRITES {
+            if self.is_empty() {
+                break;
+            }
+            match self.send(writer) {
+                SendResult::Some => took = true,
+                SendResult::Blocked => break,
+                SendResult::Failed => return Flushed { took, failed: true },
+            }
+        }
+        Flushed {
+            took,
+            failed: false,
         }
     }
 

@@ -1,5 +1,6 @@
 //! Walks over all connections, for those whose time is over.
-ghost use Rattle.std.specs.Prelude.{◌≤◌};
+ghost use Rattle.std.specs.Prelude.{◌≡◌, ◌≤◌, Some, None};
+ghost use Rattle.lane_driver.specs.Walks.{begun, ended, met, never};
 
 /// The least time between two walks, in milliseconds.
 const PAUSE: u64 = 100;
@@ -17,7 +18,9 @@ pub struct Walk {
 
 impl Walk {
     /// None is under way, and none is to begin.
-    pub fn new() -> Self {
+    pub fn new() -> Self
+        ensures { result ≡ record { at = None; least = never; next = never } }
+    {
         Walk {
             at: None,
             least: u64::MAX,
@@ -35,12 +38,18 @@ impl Walk {
     }
 
     /// The one that is under way met this deadline.
-    pub fn meets(&mut self, deadline: u64) {
+    pub fn meets(&mut self, deadline: u64)
+        ensures least { self.new.least ≤ deadline }
+        ensures behind { self.new.least ≤ self.old.least }
+        ensures walk { self.new ≡ met self.old deadline }
+    {
         self.least = self.least.min(deadline);
     }
 
     /// The next begins if its moment has come.
-    pub fn begin_if_due(&mut self, now: u64) {
+    pub fn begin_if_due(&mut self, now: u64)
+        ensures { self.new ≡ begun self.old now }
+    {
         if now >= self.next {
             self.at = Some(0);
             self.least = u64::MAX;
@@ -48,7 +57,9 @@ impl Walk {
     }
 
     /// The one that was under way ends. The next begins at the least deadline, if there is one.
-    pub fn end(&mut self, now: u64) {
+    pub fn end(&mut self, now: u64)
+        ensures { self.new ≡ ended self.old now }
+    {
         self.at = None;
         self.next = self.least;
         if self.least < u64::MAX {

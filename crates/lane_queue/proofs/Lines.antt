@@ -8,7 +8,7 @@ use Rattle.crossbeam_queue.proofs.Lists.{at_set, at_snoc}
 use Rattle.std.proofs.lemmas.List.{append-nil}
 use Rattle.lane_queue.specs.declared.rule.EndLog.{EndLog}
 use Rattle.lane_queue.specs.Histories.{QueueStep, push, pop, held_after, pushes as pushes_of, pops as pops_of, pops_from}
-use Rattle.lane_queue.specs.Moments.{HadRoom, WasFull, HadFirst, WasEmpty, HasHistory}
+use Rattle.lane_queue.specs.Moments.{HadRoom, WasFull, HadFirst}
 use Rattle.lane_queue.specs.Rule.{log, Fits, IsRecorded, HasPushed, HasPopped}
 use Rattle.lane_queue.proofs.Steps.{held_after-push, held_after-pop, room-then}
 
@@ -111,16 +111,10 @@ module _ {T : Type 0} where
   pub learns_pops : (n port : ℕ) (v : EndLog T) → v.may_pop ≡ true → Learns (IsRecorded n) port v (λ items. HasPopped n v.popped items)
   learns_pops n port v may items views h at = (h.2, h.3, sym ((h.4 port v at).1 may).1)
 
-  pub learns_all : (n port : ℕ) (v : EndLog T) → v.may_push ≡ true → v.may_pop ≡ true → Learns (IsRecorded n) port v (λ items. HasHistory n v.pushed v.popped)
-  learns_all n port v a b items views h at = (h.2, items, h.3, sym ((h.4 port v at).0 a).1, sym ((h.4 port v at).1 b).1)
-
   -- an empty list of items is no items
   no_items : (items : List T) → length items ≡ 0 → items ≡ []
   no_items [] e = refl
   no_items (x ∷ items) e = absurd (omega arith)
-
-  pub was_empty : (n : ℕ) (popped : List T) → Held 0 (HasPopped n popped) → WasEmpty n popped
-  was_empty n popped h = let none = no_items h.0 h.1 in (h.2.0, h.2.1 ∙ ap Some none, h.2.2)
 
   pub was_full : (n : ℕ) (pushed : List T) → Held n (HasPushed n pushed) → WasFull n pushed
   was_full n pushed h = (h.2.0, h.0, h.2.1, h.1, h.2.2)

@@ -39,7 +39,9 @@ pub use brake::Brake;
 pub use calls::{Call, CallLog};
 pub use ends::Sender;
 pub use gate::{Gate, GatePlace, OpenGate, ShardLoad};
-pub use law::{none_is_overtaken, popped_then_held_is_pushed, pops_take_turns};
+pub use law::{
+    few_are_held, few_overtake, none_is_overtaken, popped_then_held_is_pushed, pops_take_turns,
+};
 pub use list_port::ListPort;
 pub use making::{QueueGrid, new_grid};
 pub use pause::Pause;

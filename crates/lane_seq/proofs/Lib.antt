@@ -1,4 +1,5 @@
 pub mod ListPushes
 pub mod Numbering
 pub mod PushSteps
+pub mod Refusals
 mod Rows

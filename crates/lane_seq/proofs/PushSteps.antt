@@ -1,8 +1,9 @@
 -- One more push, and how many of them can be refused.
--- For the contract of `push_all`.
-use Rattle.std.proofs.Common.{◌≡◌, ℕ, ◌+◌, ◌≤◌, List, [], ◌∷◌, ◌++◌, length, Option, Some, None, refl, subst, arith, inl, inr, length-append}
+-- For the contracts of `push_all` and `lacks_room`.
+use Rattle.std.proofs.Common.{◌≡◌, ℕ, ◌+◌, ◌<◌, ◌≤◌, nat_le, Bool, true, false, List, [], ◌∷◌, ◌++◌, length, Option, Some, None, refl, subst, arith, inl, inr, length-append}
 use Rattle.std.specs.Prelude.{filter}
 use Rattle.std.proofs.lemmas.List.Elements.{filter-append}
+use Rattle.std.proofs.lemmas.Bool.{leb-true, leb-false}
 use Rattle.otlp_types.specs.declared.span.Ids.{Ids}
 use Rattle.otlp_types.specs.declared.arrival.Arrival.{Arrival}
 use Rattle.otlp_types.specs.declared.arrival.Item.{Item}
@@ -32,3 +33,15 @@ module _ {P : Type 0} (takes : P → Item → P → Type 0) (refuses : P → P �
   few-push arrivals a old new refused more few one =
       let last = one_counted a a.rec.span.ids old new more refl one in
       simp (filter-append, length-append) (omega arith)
+
+-- where no push was refused before, and this one isn't
+pub none-push : (refused more : ℕ) → refused ≡ 0 → more ≡ 0 → refused + more ≡ 0
+none-push refused more none one = omega (arith, none, one)
+
+-- what is so of each number below this one, and of it, is so of each below the next
+pub one_more : (Q : ℕ → Type 0) (n : ℕ) → ((k : ℕ) → k < n → Q k) → Q n → (k : ℕ) → k < n + 1 → Q k
+one_more Q n all one k below = go (nat_le n k) refl
+  where
+    go : (b : Bool) → nat_le n k ≡ b → Q k
+    go true is = let e : n ≡ k = omega (arith, below, leb-true n k is) in subst Q e one
+    go false is = all k (leb-false n k is)

@@ -2,9 +2,10 @@
 use Rattle.std.specs.Prelude.{◌≡◌, ◌⊎◌, ℕ, ◌+◌, ◌^◌, ◌<◌, ◌≤◌, Bool, true, false, List, [], ◌∷◌, slice_index}
 use Rattle.span_ids.specs.declared.outcome.Reason.TheVariants.{InvalidId, QueueFull}
 use Rattle.drop_ledger.specs.declared.count.Count.TheVariants.{Received, Dropped}
-use Rattle.drop_ledger.specs.Places.{place_of, with_added, Addition, after_adding}
+use Rattle.drop_ledger.specs.Places.{place_of, with_added, Addition, after_adding, added_to}
 use Rattle.lane_seq.specs.declared.reply.Reply.{Reply}
 use Rattle.lane_seq.specs.declared.reply.Reply.TheVariants.{Done, Partial, BadData, Busy}
+use Rattle.lane_seq.specs.Replies.{full_in}
 
 -- what a reply adds to the counts
 abbrev pub additions_of : Reply → List Addition
@@ -33,3 +34,7 @@ AllFit (a ∷ rest) old = (slice_index old (place_of a.count) + a.spans < 2 ^ 64
 abbrev pub FitsIn : Reply → Bool → List ℕ → Type 0
 FitsIn reply true old = AllFit (additions_of reply) old
 FitsIn reply false old = Unit {0}
+
+-- what a reply adds to those that found their queue full is how many of the request's spans did
+abbrev pub FullQueuesAreCounted : Type 0
+FullQueuesAreCounted = (reply : Reply) → added_to (Dropped QueueFull) (additions_of reply) ≡ full_in reply

@@ -1,5 +1,5 @@
 -- A lane, and what its pushes do to its ports.
-use Rattle.std.specs.Prelude.{◌≡◌, ℕ, ◌+◌, Bool, List, [], ◌∷◌, length, filter, slice_get, slice_set, Option, Some, None, ◌⊎◌}
+use Rattle.std.specs.Prelude.{◌≡◌, ℕ, ◌+◌, ◌<◌, ◌==◌, Bool, false, List, [], ◌∷◌, length, filter, slice_get, slice_set, Option, Some, None, ◌⊎◌}
 use Rattle.span_ids.specs.Route.{shard_of}
 use Rattle.otlp_types.specs.declared.span.Ids.{Ids}
 use Rattle.otlp_types.specs.declared.arrival.Arrival.{Arrival}
@@ -16,10 +16,31 @@ pub record LaneState (P : Type 0) : Type 0 where
   pub ports : List P
   pub keeps_doubles : Bool
 
+-- the span of an arrival with these ids goes to this shard, of so many
+abbrev pub goes_to : (shard shards : ℕ) → Option Ids → Bool
+goes_to shard shards None = false
+goes_to shard shards (Some ids) = shard_of ids.trace shards == shard
+
+-- how many spans of these arrivals go to it
+abbrev pub count_to : (shard shards : ℕ) → List Arrival → ℕ
+count_to shard shards arrivals = length (filter (λ a. goes_to shard shards a.rec.span.ids) arrivals)
+
 module _ {P : Type 0} where
-  -- the lane with this port at this shard
-  abbrev pub with_port : LaneState P → (shard : ℕ) → P → LaneState P
-  with_port lane shard port = record lane { ports = slice_set lane.ports shard port }
+  -- the port of this shard is said to take so many items as there are spans, or as many as go to that shard
+  abbrev pub FitsAt : (fits : P → ℕ → Type 0) → List P → List Arrival → (shard : ℕ) → Type 0
+  FitsAt fits ports arrivals shard = (port : P) × (slice_get ports shard ≡ Some port) × (fits port (length arrivals) ⊎ fits port (count_to shard (length ports) arrivals))
+
+  -- it is said to take neither
+  abbrev pub LacksAt : (lacks : P → ℕ → Type 0) → List P → List Arrival → (shard : ℕ) → Type 0
+  LacksAt lacks ports arrivals shard = (port : P) × (slice_get ports shard ≡ Some port) × lacks port (length arrivals) × lacks port (count_to shard (length ports) arrivals)
+
+  -- each port is said to take what goes to its shard
+  abbrev pub FitEach : (fits : P → ℕ → Type 0) → List P → List Arrival → Type 0
+  FitEach fits ports arrivals = (shard : ℕ) → shard < length ports → FitsAt fits ports arrivals shard
+
+  -- some port isn't
+  abbrev pub LacksSome : (lacks : P → ℕ → Type 0) → List P → List Arrival → Type 0
+  LacksSome lacks ports arrivals = (shard : ℕ) × LacksAt lacks ports arrivals shard
 
 -- `takes` and `refuses` say what a push does to a port, where it puts the item in and where it is refused
 module _ {P : Type 0} (takes : P → Item → P → Type 0) (refuses : P → P → Type 0) where

@@ -17,6 +17,13 @@ is_received (Partial spans invalid full) = true
 is_received (BadData cause) = false
 is_received Busy = false
 
+-- how many spans of the request found their queue full
+abbrev pub full_in : Reply → ℕ
+full_in (Done spans) = 0
+full_in (Partial spans invalid full) = full
+full_in (BadData cause) = 0
+full_in Busy = 0
+
 -- this fact, where the request's spans were received
 abbrev pub OnReceived : Reply → Type 0 → Type 0
 OnReceived (Done spans) fact = fact

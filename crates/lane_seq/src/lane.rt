@@ -1,14 +1,14 @@
 //! A lane: the one place at which the spans of its connections are numbered, routed and pushed.
-ghost use Rattle.std.specs.Prelude.{◌≡◌, ℕ, ◌+◌, ◌-◌, ◌^◌, ◌<◌, ◌≤◌, false, Some, length, IsTrue};
+ghost use Rattle.std.specs.Prelude.{◌≡◌, ℕ, ◌+◌, ◌-◌, ◌^◌, ◌<◌, ◌≤◌, false, true, Some, length, IsTrue};
 ghost use Rattle.otlp_request.specs.Reads.{Reads, IsRefusedFor};
 ghost use Rattle.otlp_flatten.specs.Flat.{records_of};
 ghost use Rattle.otlp_types.specs.declared.request.Request.{Request};
 ghost use Rattle.lane_seq.specs.Numbers.{arrivals_from};
-ghost use Rattle.lane_seq.specs.Replies.{IsRefusal, OnReceived};
-ghost use Rattle.lane_seq.specs.Pushes.{LaneState, Receives};
+ghost use Rattle.lane_seq.specs.Replies.{IsRefusal, OnReceived, full_in};
+ghost use Rattle.lane_seq.specs.Pushes.{LaneState, Receives, LacksSome};
 
 use crate::preparing::{Conn, Prepared, count_invalid, prepare};
-use crate::pushing::{lacks_room, push_all, reply_to};
+use crate::pushing::{is_sent_again, push_all, reply_to};
 use crate::reply::Reply;
 use lane_queue::Port;
 use otlp_encoding::Encoding;
@@ -140,6 +140,7 @@ impl<P: Port<Item>> Lane<P> {
     /// that has valid ids is pushed once, in document order, to the port of its route. After `BadData` and `Busy`
     /// nothing was pushed and no number was used. A lane that is [`Lane::asking_again`] answers `Busy` where a queue
     /// lacks room.
+    #[tactic(auto, using(crate::proofs::Refusals::full_of_refusal))]
     pub fn submit(
         &mut self,
         alloc: Global,
@@ -159,6 +160,7 @@ impl<P: Port<Item>> Lane<P> {
         ensures ports { length self.new.ports ≡ length self.old.ports }
         ensures bad { (cause : BadData) → result ≡ Reply.BadData cause → IsRefusedFor encoding self.old.keeps_doubles body.now cause }
         ensures refused { IsRefusal result → (self.new ≡ self.old) × (conn.new ≡ conn.old) }
+        ensures waiting { P.waits ≡ true → full_in result ≡ 0 }
     {
         match prepare(alloc, self.keeps_doubles, conn, encoding, body, moment) {
             Ok(prepared) => self.receive_if_room(conn, prepared),
@@ -174,20 +176,24 @@ impl<P: Port<Item>> Lane<P> {
         ensures lane { self.new ≡ record self.old { ports = self.new.ports } }
         ensures ports { length self.new.ports ≡ length self.old.ports }
         ensures refused { IsRefusal result → (result ≡ Reply.Busy) × (self.new ≡ self.old) × (conn.new ≡ conn.old) }
+        ensures busy { result ≡ Reply.Busy → LacksSome P.lacks self.old.ports prepared.arrivals.items }
+        ensures waiting { P.waits ≡ true → full_in result ≡ 0 }
     {
-        if self.asks_again && lacks_room(&self.ports, &prepared.arrivals) {
+        if is_sent_again(self.asks_again, &self.ports, &prepared.arrivals) {
             return Reply::Busy;
         }
         self.receive(conn, prepared)
     }
 
     /// Pushes what a request brought, and answers it.
+    #[tactic(auto, using(crate::proofs::Refusals::full_of_reply))]
     fn receive(&mut self, conn: &mut Conn, prepared: Prepared) -> Reply
         requires { conn.old.next + length prepared.arrivals.items < 2 ^ 64 }
         ensures pushed { Receives P.takes P.refuses prepared.arrivals.items self.old.ports result self.new.ports }
         ensures lane { self.new ≡ record self.old { ports = self.new.ports } }
         ensures ports { length self.new.ports ≡ length self.old.ports }
         ensures next { conn.new ≡ record conn.old { next = conn.old.next + length prepared.arrivals.items } }
+        ensures waiting { P.waits ≡ true → full_in result ≡ 0 }
     {
         let arrivals = prepared.arrivals;
         let spans = arrivals.len() as u64;

@@ -19,7 +19,7 @@ mod routing;
 
 pub use counting::count_reply;
 pub use lane::{Lane, LaneEnd};
-pub use law::list_pushes_are_determined;
+pub use law::{full_queues_are_counted, list_pushes_are_determined};
 pub use preparing::{Conn, Prepared, count_invalid, prepare};
 pub use reply::Reply;
 pub use routing::route;

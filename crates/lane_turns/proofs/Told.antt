@@ -1,6 +1,6 @@
 -- What an act is of what the driver said, and a run by one round more.
 -- For the clauses `fits` of src/table.rt and of `turn`, and `driven` of `serve_turns`.
-use Rattle.std.proofs.Common.{◌≡◌, ◌≢◌, ◌∙◌, ℕ, suc, ◌==◌, Bool, true, false, not, List, [], ◌∷◌, ◌++◌, Option, Some, None, refl, sym, ap, subst, eq-eqb, append-nil, IsSome, IsTrue, count_by, is_some}
+use Rattle.std.proofs.Common.{◌≡◌, ◌≢◌, ◌∙◌, ℕ, suc, ◌==◌, Bool, true, false, List, [], ◌∷◌, ◌++◌, Option, Some, None, refl, sym, ap, subst, eq-eqb, append-nil, IsSome, IsTrue, count_by, is_some}
 use Rattle.std.specs.Prelude.{slice_index_or}
 use Rattle.http_text.specs.declared.allowed.Allowed.{Allowed}
 use Rattle.http_lane.specs.declared.turns.Exchange.{Exchange}
@@ -81,10 +81,6 @@ no_engine awaits g (Some e) r a idle = absurd (let both = sym a.1 ∙ idle in cc
 pub an_engine : {E : Type 0} (awaits : E → RequestReading → Type 0) (g : Allowed) (engine : Option E) (r : RequestReading) → AwaitsBy g awaits engine r → is_between r ≡ false → engine ≢ None
 an_engine awaits g None r a busy = λ e. absurd (let both = sym busy ∙ ap is_between a in cc)
 an_engine awaits g (Some x) r a busy = λ e. absurd cc
-
-pub idle_is : {E : Type 0} (awaits : E → RequestReading → Type 0) (g : Allowed) (engine : Option E) (r : RequestReading) → AwaitsBy g awaits engine r → is_between r ≡ not (is_some engine)
-idle_is awaits g None r a = ap is_between a
-idle_is awaits g (Some e) r a = a.1
 
 -- ---- the run
 

@@ -4,9 +4,6 @@ use Rattle.std.proofs.Common.{◌≡◌, ◌<◌, ◌++◌, ◌+◌, ◌∷◌, 
 use Rattle.std.specs.Prelude.{Result, Ok, Err, OnOk, map}
 use Rattle.std.specs.List.{concat}
 use Rattle.metrics_text.specs.Families.{dropped_sample, reasons, sample_line}
-use Rattle.metrics_text.specs.Shards.{shard_line, shard_lines}
-use Rattle.metrics_text.specs.declared.figure.ShardFigure.{ShardFigure}
-use Rattle.metrics_text.specs.declared.metrics.ShardNumbers.{ShardNumbers}
 use Rattle.span_ids.specs.declared.outcome.Reason.TheVariants.{InvalidId}
 
 -- behind a first text the second was appended
@@ -34,10 +31,6 @@ lines-next name report text new whole passed some so e =
     ∙ ap (λ rs. text ++ concat (map (sample_line name) (map (dropped_sample report) rs))) (sym (drop-cons reasons passed InvalidId some))
     ∙ so)
 
--- the texts of these items are there, and those of the others are left
-pub items-begin : (old text lines : List ℕ) → text ≡ old → text ++ lines ≡ old ++ lines
-items-begin old text lines e = ap (λ (x : List ℕ). x ++ lines) e
-
 -- one item's text more is there, and one less is left
 pub items-next : {A : Type 0} (f : A → List ℕ) (xs : List A) (default : A) (text new whole : List ℕ) (passed : ℕ) → passed < length xs → text ++ concat (map f (drop passed xs)) ≡ whole
     → new ≡ text ++ f (get_or xs passed default) → new ++ concat (map f (drop (passed + 1) xs)) ≡ whole
@@ -47,22 +40,6 @@ items-next f xs default text new whole passed some so e =
     ap (λ (x : List ℕ). x ++ concat (map f (drop (suc passed) xs))) e
     ∙ append_assoc text line (concat (map f (drop (suc passed) xs)))
     ∙ ap (λ rs. text ++ concat (map f rs)) (sym (drop-cons xs passed default some))
-    ∙ so)
-
--- the lines of all shards are left
-pub shards-begin : (figure : ShardFigure) (old text : List ℕ) (shards : List ShardNumbers) → text ≡ old → text ++ shard_lines figure 0 (drop 0 shards) ≡ old ++ shard_lines figure 0 shards
-shards-begin figure old text shards e = ap (λ (x : List ℕ). x ++ shard_lines figure 0 shards) e
-
--- one shard's line more is there, and one less is left
-pub shards-next : (figure : ShardFigure) (shards : List ShardNumbers) (default : ShardNumbers) (text new whole : List ℕ) (passed : ℕ) → passed < length shards
-    → text ++ shard_lines figure passed (drop passed shards) ≡ whole → new ≡ text ++ shard_line figure passed (get_or shards passed default)
-    → new ++ shard_lines figure (passed + 1) (drop (passed + 1) shards) ≡ whole
-shards-next figure shards default text new whole passed some so e =
-    rw add-one
-    (let line : List ℕ = shard_line figure passed (get_or shards passed default) in
-    ap (λ (x : List ℕ). x ++ shard_lines figure (suc passed) (drop (suc passed) shards)) e
-    ∙ append_assoc text line (shard_lines figure (suc passed) (drop (suc passed) shards))
-    ∙ ap (λ rest. text ++ shard_lines figure passed rest) (sym (drop-cons shards passed default some))
     ∙ so)
 
 -- the six families, the figures and the shards

@@ -1,6 +1,6 @@
 -- A list of groups is put together from the front.
 -- For the contracts of `group` and `resource_group`.
-use Rattle.std.proofs.Common.{◌≡◌, ◌≢◌, ℕ, zero, suc, ◌<◌, List, [], ◌∷◌, ◌++◌, map, length, drop, Some, option_map, refl, sym, ap, ◌∙◌, arith, append_assoc, append-nil}
+use Rattle.std.proofs.Common.{◌≡◌, ◌≢◌, ℕ, zero, suc, ◌<◌, List, [], ◌∷◌, ◌++◌, map, length, drop, Some, option_map, refl, sym, ap, ◌∙◌, append_assoc, append-nil}
 use Rattle.std.specs.List.{AllByRecursion, flat_map, slice_get}
 use Rattle.std.proofs.lemmas.Option.{slice_get_within}
 use Rattle.otlp_types.specs.declared.arrival.Record.{Record}
@@ -79,12 +79,3 @@ pub another_behind : {A : Type 0} {K : Type 0} (record_in : A → Record) (key_o
     → Another key_of c (map record_in (drop n xs))
 another_behind record_in key_of xs n c other first =
     another_mapped record_in key_of c (drop n xs) (key-behind (λ x. key_of (record_in x)) xs n c other first)
-
--- all of a run have the first one's key
-pub all_of_key : {A : Type 0} {K : Type 0} (key : A → K) (c : K) (xs : List A)
-    → ((k : ℕ) → k < length xs → option_map key (slice_get xs k) ≡ Some c) → AllByRecursion (λ x. key x ≡ c) xs
-all_of_key key c [] h = tt
-all_of_key key c (x ∷ xs) h = (some_same (h 0 (omega arith)), all_of_key key c xs (λ k l. h (suc k) (omega arith)))
-  where
-    some_same : Some (key x) ≡ Some c → key x ≡ c
-    some_same e = cc

@@ -160,10 +160,6 @@ value_nests (suc n) v s h = yields_merged (NestsAtMost (suc n)) (value_step (val
 
 -- ---- rows of the definition
 
--- [7]: two levels, and not one
-two_levels : NestsAtMost 2 (Array (Int (pos 7) ∷ []))
-two_levels = nests-Array 1 (Int (pos 7) ∷ []) (All-cons (NestsAtMost 1) (Int (pos 7)) [] (nests-Int 0 (pos 7)) (All-nil (NestsAtMost 1)))
-
 not_one_level : NestsAtMost 1 (Array (Int (pos 7) ∷ [])) → ⊥
 unfolding NestsAtMost
 not_one_level h = let P : List AnyValue → Type 0 = All (NestsAtMost 0) in subst P (items_of_array (Int (pos 7) ∷ [])) h.0 0 Empty (lit< tt)

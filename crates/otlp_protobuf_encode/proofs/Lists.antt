@@ -27,9 +27,6 @@ pub one-more : {A : Type 0} (f : A → List Field) (n : ℕ) (xs : List A) (i : 
 one-more f n xs i x a b c so_far within is written =
     subst (λ (fs : List Field). Adds a c fs) (one-last f n i xs x within is) (then a b c (repeated n (map f (take i xs))) (message_in n (f x) ∷ []) so_far written)
 
-pub all-written : {A : Type 0} (f : A → List Field) (n : ℕ) (xs : List A) (i : ℕ) (a b : List ℕ) → length xs ≤ i → Adds a b (repeated n (map f (take i xs))) → Adds a b (repeated n (map f xs))
-all-written {A = A} f n xs i a b end h = subst (λ (ys : List A). Adds a b (repeated n (map f ys))) (take_all i xs end) h
-
 -- ---- faults
 
 skip_one : (e : Fault) (es fs : List Fault) → or_then e (first es) ≡ None → (first es ≡ None → first (es ++ fs) ≡ first fs) → or_then e (first (es ++ fs)) ≡ first fs
@@ -47,17 +44,11 @@ none-more g xs i x h within is none =
     ap (λ ys. first (map g ys)) (take_more xs i x within) ∙ ap first (map-append g (take i xs) (get_or xs i x ∷ [])) ∙ skip (map g (take i xs)) (g (get_or xs i x) ∷ []) h
     ∙ ap (λ e. or_then e None) (ap g (sym is) ∙ none)
 
-pub all-none : {A : Type 0} (g : A → Fault) (xs : List A) (i : ℕ) → length xs ≤ i → first (map g (take i xs)) ≡ None → first (map g xs) ≡ None
-all-none g xs i end h = ap (λ ys. first (map g ys)) (sym (take_all i xs end)) ∙ h
-
 -- what is told of the first of two is told of both
 pub tells-first : (e : EncodeError) (f g : Fault) → Tells f e → Tells (or_then f g) e
 tells-first NotBase64 f g h = ap (λ x. or_then x g) h
 tells-first NotHex f g h = ap (λ x. or_then x g) h
 tells-first NoMemory f g h = tt
-
-pub tells-second : (e : EncodeError) (f g : Fault) → f ≡ None → Tells g e → Tells (or_then f g) e
-tells-second e f g none h = subst (λ (x : Fault). Tells (or_then x g) e) (sym none) h
 
 pub tells-here : {A : Type 0} (g : A → Fault) (xs : List A) (i : ℕ) (x : A) (e : EncodeError) → first (map g (take i xs)) ≡ None → i < length xs → x ≡ get_or xs i x → Tells (g x) e
     → Tells (first (map g xs)) e

@@ -7,7 +7,6 @@ use Rattle.protobuf_writer.specs.Defaults.{field, text_field, message_in, messag
 use Rattle.otlp_types.specs.declared.value.AnyValue.{AnyValue, Empty, Str, Bool as Truth, Int, Double, Array, KvList, Bytes, the_lemmas}
 use Rattle.otlp_types.specs.declared.value.KeyValue.{KeyValue}
 use Rattle.otlp_protobuf_encode.specs.Writing.{int_bits, truth_bits, base64_of, value_fields, pair_fields}
-use Rattle.otlp_protobuf_encode.specs.Faults.{first, base64_fault, value_fault, pair_fault}
 
 pub fields-Empty : value_fields Empty ≡ []
 fields-Empty = search (rules, the_lemmas)
@@ -35,12 +34,3 @@ fields-Bytes s = search (rules, the_lemmas)
 
 pub fields-pair : (p : KeyValue) → pair_fields p ≡ text_field 1 p.key ++ message_field 2 (value_fields p.value)
 fields-pair p = search (rules, the_lemmas)
-
-pub fault-Array : (vs : List AnyValue) → value_fault (Array vs) ≡ first (map value_fault vs)
-fault-Array vs = search (rules, the_lemmas)
-
-pub fault-KvList : (ps : List KeyValue) → value_fault (KvList ps) ≡ first (map pair_fault ps)
-fault-KvList ps = search (rules, the_lemmas)
-
-pub fault-Bytes : (s : List ℕ) → value_fault (Bytes s) ≡ base64_fault s
-fault-Bytes s = search (rules, the_lemmas)

@@ -2,14 +2,13 @@
 -- For the contracts of `each` and `value`.
 use Rattle.std.proofs.Common.{◌≡◌, ℕ, zero, suc, ◌+◌, ◌<◌, ◌≤◌, List, [], ◌∷◌, ◌++◌, length, drop, get_or, Option, Some, None, option_map, option_and_then, refl, sym, ap, ◌∙◌, append_assoc, append-nil, arith, add-one}
 use Rattle.std.specs.Prelude.{cond, is_none}
-use Rattle.std.proofs.lemmas.List.{drop_all}
 use Rattle.std.proofs.lemmas.List.Elements.{filter_map-append}
 use Rattle.std.proofs.lemmas.List.Sums.{sum_by-append}
 use Rattle.serde_json.specs.Data.{Data, Items, no_items, item}
 use Rattle.serde_json.specs.View.{view, items_view}
 use Rattle.serde_json.specs.declared.value.Value.{Value}
 use Rattle.otlp_reading.specs.Kinds.{each}
-use Rattle.otlp_reading.specs.Reading.{OrDiscarded, kept, discarded, sieved}
+use Rattle.otlp_reading.specs.Reading.{OrDiscarded, kept, discarded}
 
 -- Of all items those at the front are read as `done`, and the rest are left.
 pub record Reads {A : Type 0} (read : Data → Option A) (all : Items) (done : List A) (rest : Items) : Type 0 where
@@ -30,10 +29,6 @@ pushed done x (Some xs) = ap Some (sym (append_assoc done (x ∷ []) xs))
 pub Reads-step : {A : Type 0} (read : Data → Option A) (all : Items) (done : List A) (d : Data) (rest : Items) (x : A)
     → Reads read all done (item d rest) → read d ≡ Some x → Reads read all (done ++ x ∷ []) rest
 Reads-step read all done d rest x h e = record { so_far = h.so_far ∙ rw e (pushed done x (each read rest)) }
-
-pub Reads-stop : {A : Type 0} (read : Data → Option A) (all : Items) (done : List A) (d : Data) (rest : Items)
-    → Reads read all done (item d rest) → read d ≡ None → each read all ≡ None
-Reads-stop read all done d rest h e = h.so_far ∙ rw e refl
 
 pub Reads-end : {A : Type 0} (read : Data → Option A) (all : Items) (done : List A)
     → Reads read all done no_items → each read all ≡ Some done
@@ -64,9 +59,6 @@ pub record Sieves {A : Type 0} (read : Data → Option (OrDiscarded A)) (vs : Li
   pub none_is : none ≡ discarded done
   pub at_most : none ≤ i
 
-pub Sieves-start : {A : Type 0} (read : Data → Option (OrDiscarded A)) (vs : List Value) → Sieves read vs 0 [] 0
-Sieves-start read vs = record { done = []; reads = Reads-start read (items_view vs); some_is = refl; none_is = refl; at_most = omega arith }
-
 -- one more item, which is kept or discarded
 pub Sieves-next : {A : Type 0} (read : Data → Option (OrDiscarded A)) (vs : List Value) (i : ℕ) (some : List A) (none : ℕ) (v : Value) (o : OrDiscarded A) (more : List A) (gone : ℕ)
     → Sieves read vs i some none → i < length vs → v ≡ get_or vs i v → read (view v) ≡ Some o → more ≡ some ++ kept (o ∷ []) → gone ≡ none + discarded (o ∷ []) → Sieves read vs (i + 1) more gone
@@ -78,33 +70,6 @@ Sieves-next read vs i some none v o more gone s h e r some_more none_more = reco
   at_most = let n = s.at_most in let m = one_at_most o in omega arith;
 }
 
-pub Sieves-stop : {A : Type 0} (read : Data → Option (OrDiscarded A)) (vs : List Value) (i : ℕ) (some : List A) (none : ℕ) (v : Value)
-    → Sieves read vs i some none → i < length vs → v ≡ get_or vs i v → read (view v) ≡ None → each read (items_view vs) ≡ None
-Sieves-stop read vs i some none v s h e r =
-    Reads-stop read (items_view vs) s.done (view v) (items_view (drop (i + 1) vs)) (rw (items_view-drop vs i v h e) at s.reads) r
-
-pub Sieves-end : {A : Type 0} (read : Data → Option (OrDiscarded A)) (vs : List Value) (i : ℕ) (some : List A) (none : ℕ)
-    → Sieves read vs i some none → length vs ≤ i → option_map sieved (each read (items_view vs)) ≡ Some (some, none)
-Sieves-end read vs i some none s h =
-    rw (Reads-end read (items_view vs) s.done (rw (drop_all i vs h) at s.reads), s.some_is, s.none_is)
-
 -- Of a list of items those at the front are read, and the rest are left.
 pub record ReadsTo {A : Type 0} (read : Data → Option A) (vs : List Value) (i : ℕ) (done : List A) : Type 0 where
   pub reads : Reads read (items_view vs) done (items_view (drop i vs))
-
-pub ReadsTo-start : {A : Type 0} (read : Data → Option A) (vs : List Value) → ReadsTo read vs 0 []
-ReadsTo-start read vs = record { reads = Reads-start read (items_view vs) }
-
-pub ReadsTo-step : {A : Type 0} (read : Data → Option A) (vs : List Value) (i : ℕ) (done : List A) (v : Value) (x : A)
-    → ReadsTo read vs i done → i < length vs → v ≡ get_or vs i v → read (view v) ≡ Some x → ReadsTo read vs (i + 1) (done ++ x ∷ [])
-ReadsTo-step read vs i done v x s h e r =
-    record { reads = Reads-step read (items_view vs) done (view v) (items_view (drop (i + 1) vs)) x (rw (items_view-drop vs i v h e) at s.reads) r }
-
-pub ReadsTo-stop : {A : Type 0} (read : Data → Option A) (vs : List Value) (i : ℕ) (done : List A) (v : Value)
-    → ReadsTo read vs i done → i < length vs → v ≡ get_or vs i v → read (view v) ≡ None → each read (items_view vs) ≡ None
-ReadsTo-stop read vs i done v s h e r =
-    Reads-stop read (items_view vs) done (view v) (items_view (drop (i + 1) vs)) (rw (items_view-drop vs i v h e) at s.reads) r
-
-pub ReadsTo-end : {A : Type 0} (read : Data → Option A) (vs : List Value) (i : ℕ) (done : List A)
-    → ReadsTo read vs i done → length vs ≤ i → each read (items_view vs) ≡ Some done
-ReadsTo-end read vs i done s h = Reads-end read (items_view vs) done (rw (drop_all i vs h) at s.reads)

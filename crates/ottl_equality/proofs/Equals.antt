@@ -6,7 +6,7 @@ use Rattle.std.specs.List.{list_all}
 use Rattle.std.specs.Cmp.Lexicographic.{pointwise}
 use Rattle.otlp_types.specs.declared.value.AnyValue.{AnyValue, Array, KvList, the_lemmas}
 use Rattle.otlp_types.specs.declared.value.KeyValue.{KeyValue}
-use Rattle.ottl_equality.specs.Equality.{pair_of, passes, equal, is_among, lists_equal, maps_equal}
+use Rattle.ottl_equality.specs.Equality.{equal, is_among, lists_equal, maps_equal}
 
 by_tests : (vs ws : List AnyValue) → pointwise (λ test w. test w) (map equal vs) ws ≡ lists_equal vs ws
 by_tests [] [] = refl
@@ -31,6 +31,3 @@ pub equal-maps : (ps qs : List KeyValue) → equal (KvList ps) (KvList qs) ≡ m
 equal-maps ps qs =
     let folded : equal (KvList ps) (KvList qs) ≡ ((length (map is_among ps) == length qs) && list_all (λ test. test qs) (map is_among ps)) = search (rules, the_lemmas) in
     folded ∙ ap (λ n. (n == length qs) && list_all (λ test. test qs) (map is_among ps)) (as_long is_among ps) ∙ ap (λ b. (length ps == length qs) && b) (all_tests ps qs)
-
-pub among-pair : (p : KeyValue) (qs : List KeyValue) → is_among p qs ≡ passes (pair_of p.key qs) (equal p.value)
-among-pair p qs = search (rules, the_lemmas)

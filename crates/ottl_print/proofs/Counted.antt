@@ -1,6 +1,6 @@
 -- Levels as they are counted, and the parts that fit where the whole does.
 -- For the contracts of sizes and printing.
-use Rattle.std.proofs.Common.{◌≡◌, ℕ, suc, ◌+◌, ◌<◌, ◌≤◌, min, max, Bool, true, false, cond, ◌&&◌, ◌||◌, List, nat_lt, nat_le, refl, sym, ap, ◌∙◌, subst, inl, inr, arith, true≢false}
+use Rattle.std.proofs.Common.{◌≡◌, ℕ, ◌+◌, ◌<◌, ◌≤◌, min, max, Bool, true, false, cond, List, nat_lt, subst, inl, inr, arith}
 use Rattle.std.proofs.lemmas.Bool.{cases_lt}
 use Rattle.std.proofs.lemmas.Bool.Decides.{nat_tests}
 use Rattle.ottl_text.specs.declared.expression.Unary.{Unary}
@@ -9,7 +9,7 @@ use Rattle.ottl_text.specs.declared.expression.Case.{Case}
 use Rattle.ottl_text.specs.Syntax.{Term, unary, binary, is_match, substring, cased, concat}
 use Rattle.ottl_text.specs.Names.{precedence}
 use Rattle.ottl_print.specs.Names.{is_operator}
-use Rattle.ottl_print.specs.Printing.{Size, is_row, levels_at, joined_size, has_parentheses, saves_levels, called_size, size, argument, operand_of_one}
+use Rattle.ottl_print.specs.Printing.{Size, levels_at, joined_size, has_parentheses, called_size, size, argument, operand_of_one}
 use Rattle.ottl_print.specs.Sizes.{IsCapped, IsSizeOf, Fits}
 use Rattle.ottl_print.proofs.ReadsBack.{levels_at_least}
 
@@ -39,43 +39,9 @@ chosen_joined s n levels row w v same h = elim (cases_lt 200 s.levels) [
   | inr few ↦ subst (λ w. IsSizeOf (joined_size w s n) levels row) (same few) h
 ]
 
-pub long_test : (s : Size) (n levels row right : ℕ) → IsSizeOf s levels row → IsCapped right n → s.levels ≤ 200 → nat_lt levels (row + 2 + right) ≡ nat_lt s.levels (s.row + 2 + n)
-long_test s n levels row right h k few =
-    let row_is = h.row_is few in
-    let levels_is : levels ≡ s.levels = omega (arith, h.levels_are, few) in
-    elim (cases_lt n 201) [
-      | inl small ↦ (let is : right ≡ n = omega (arith, k, small) in rw (levels_is, row_is, is) refl)
-      | inr large ↦ (
-          let lower : levels < row + 2 + right = omega (arith, levels_is, few, k, large) in
-          let upper : s.levels < s.row + 2 + n = omega (arith, few, large) in
-          Rattle.std.proofs.Common.lt-ltb levels (row + 2 + right) lower ∙ sym (Rattle.std.proofs.Common.lt-ltb s.levels (s.row + 2 + n) upper))
-    ]
-
-pub saves_test : (sparing : Bool) (x : Term) (s : Size) (n levels row right : ℕ) → IsSizeOf s levels row → IsCapped right n → (sparing ≡ true → s.levels ≤ 200)
-    → (sparing && (is_row x && nat_lt levels (row + 2 + right))) ≡ saves_levels sparing x s n
-saves_test false x s n levels row right h k few = refl
-saves_test true x s n levels row right h k few = ap (λ b. is_row x && b) (long_test s n levels row right h k (few refl))
-
 -- ---- whether more parentheses are put
-pub not_many : (counted n : ℕ) → IsCapped counted n → counted ≤ 200 → nat_lt 200 n ≡ false
-not_many counted n h few = let small : n ≤ 200 = omega (arith, h, few) in grind (arith, nat_tests, small)
-
 pub many : (counted n : ℕ) → IsCapped counted n → 200 < counted → nat_lt 200 n ≡ true
 many counted n h large = let big : 200 < n = omega (arith, h, large) in grind (arith, nat_tests, big)
-
-pub few_same : (counted n : ℕ) → IsCapped counted n → nat_le counted 200 ≡ nat_le n 200
-few_same counted n h = elim (cases_lt n 201) [
-  | inl small ↦ (let is : counted ≡ n = omega (arith, h, small) in rw is refl)
-  | inr large ↦ (
-      let big : 200 < counted = omega (arith, h, large) in
-      let a : nat_le counted 200 ≡ false = grind (arith, nat_tests, big) in let b : nat_le n 200 ≡ false = grind (arith, nat_tests, large) in a ∙ sym b)
-]
-
-pub few_of : (counted n : ℕ) → IsCapped counted n → counted ≤ 200 → n ≤ 200
-few_of counted n h few = omega (arith, h, few)
-
-pub few_sparing : (sparing : Bool) (t : Term) → Fits sparing t → sparing ≡ true → (size sparing t).levels ≤ 200
-few_sparing sparing t fits is = rw is (fits.few is)
 
 -- ---- parts
 within : (s t : Term) (sparing : Bool) → (size true s).levels ≤ (size true t).levels → Fits sparing t → Fits sparing s

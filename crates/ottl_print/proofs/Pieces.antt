@@ -1,6 +1,6 @@
 -- Pieces of a text, in front of what ends them.
 -- For the law of laws::prints_as_itself.
-use Rattle.std.proofs.Common.{◌≡◌, ℕ, suc, ◌+◌, Bool, true, false, cond, ◌&&◌, ◌||◌, List, [], ◌∷◌, ◌++◌, length, get_or, take, drop, nat_lt, Ok, refl, sym, ap, ◌∙◌, arith, true≢false, ne_eqb, lt-ltb, append_assoc}
+use Rattle.std.proofs.Common.{◌≡◌, ℕ, suc, ◌+◌, Bool, true, false, cond, ◌&&◌, List, [], ◌∷◌, ◌++◌, length, get_or, take, drop, nat_lt, Ok, refl, sym, ap, ◌∙◌, arith, true≢false, ne_eqb, lt-ltb, append_assoc}
 use Rattle.std.proofs.lemmas.Bool.Decides.{nat_tests}
 use Rattle.std.proofs.lemmas.List.Sums.{take_while-cons}
 use Rattle.std.proofs.Math.Seq.{take-append_seam, drop-append_seam}
@@ -40,10 +40,6 @@ unlike p c k is is_not = ne_eqb c k (λ e. true≢false (sym is ∙ ap p e ∙ i
 
 pub differs : (c k : ℕ) → is_of_word k ≡ true → is_of_word c ≡ false → (c == k) ≡ false
 differs c k is other = ne_eqb c k (λ e. true≢false (sym is ∙ ap is_of_word (sym e) ∙ other))
-
-or_second : (a b : Bool) → b ≡ true → (a || b) ≡ true
-or_second true b e = refl
-or_second false b e = e
 
 digit_of_word : (c : ℕ) → is_ascii_digit c ≡ true → is_of_word c ≡ true
 digit_of_word c e = rw e (grind (arith, nat_tests))
@@ -223,6 +219,3 @@ float_long s whole digits tail e point d some x = rw (e, point, d, some, x) refl
 
 pub drop_seam : (xs rest : List ℕ) (n : ℕ) → n ≡ length xs → drop n (xs ++ rest) ≡ rest
 drop_seam xs rest n e = rw e (drop-append_seam xs rest)
-
-pub take_seam : (xs rest : List ℕ) (n : ℕ) → n ≡ length xs → take n (xs ++ rest) ≡ xs
-take_seam xs rest n e = rw e (take-append_seam xs rest)

@@ -1,6 +1,6 @@
 -- The bytes of an output's files, as they grow and as one is left.
 -- For the contracts of `write`, `turn` and `open_anew` (bytes, keeps), and for the invariant of `OutputFile`.
-use Rattle.std.proofs.Common.{◌≡◌, ◌∙◌, ℕ, ◌-◌, suc, nat_eq, Bool, true, List, [], ◌∷◌, ◌++◌, length, Option, Some, None, refl, sym, ap, subst, append_assoc, append-nil, arith}
+use Rattle.std.proofs.Common.{◌≡◌, ◌∙◌, ℕ, ◌-◌, suc, nat_eq, Bool, true, List, [], ◌∷◌, ◌++◌, length, Option, Some, None, refl, sym, ap, subst, append-nil, arith}
 use Rattle.std.specs.List.{slice_get, concat}
 use Rattle.std.proofs.lemmas.List.Folds.{concat-append}
 use Rattle.std.specs.Io.KnownBytes.{Appends, Keeps}
@@ -34,26 +34,6 @@ segments_grow (Some segments) None new before taken are grows = absurd are
 segments_grow (Some segments) (Some bytes) None before taken are grows = absurd grows
 segments_grow (Some segments) (Some bytes) (Some more) before taken are grows =
     (are.0, λ ends. subst EndsAtLineEnd (sym grows) (ends_more before bytes taken are.1 ends))
-
--- it took nothing
-pub segments_stay : (left : Option (List (List ℕ))) (old new : Option (List ℕ)) (before : Bool) → AreSegments left old before → Keeps old new → AreSegments left new before
-segments_stay None old new before are keeps = tt
-segments_stay (Some segments) None new before are keeps = absurd are
-segments_stay (Some segments) (Some bytes) None before are keeps = absurd keeps
-segments_stay (Some segments) (Some bytes) (Some same) before are keeps = (are.0, λ ends. subst EndsAtLineEnd (sym keeps) (are.1 ends))
-
-pub joined_grows : (left : Option (List (List ℕ))) (old new : Option (List ℕ)) (before : Bool) (taken : List ℕ) → AreSegments left old before → Appends old new taken → Appends (joined left old) (joined left new) taken
-joined_grows None old new before taken are grows = tt
-joined_grows (Some segments) None new before taken are grows = absurd are
-joined_grows (Some segments) (Some bytes) None before taken are grows = absurd grows
-joined_grows (Some segments) (Some bytes) (Some more) before taken are grows =
-    ap (λ l. concat segments ++ l) grows ∙ sym (append_assoc (concat segments) bytes taken)
-
-pub joined_stays : (left : Option (List (List ℕ))) (old new : Option (List ℕ)) (before : Bool) → AreSegments left old before → Keeps old new → Keeps (joined left old) (joined left new)
-joined_stays None old new before are keeps = tt
-joined_stays (Some segments) None new before are keeps = absurd are
-joined_stays (Some segments) (Some bytes) None before are keeps = absurd keeps
-joined_stays (Some segments) (Some bytes) (Some same) before are keeps = ap (λ l. concat segments ++ l) keeps
 
 -- another file is open
 pub joined_turns : (left : Option (List (List ℕ))) (old new : Option (List ℕ)) (before : Bool) → AreSegments left old before → IsFresh left new → Keeps (joined left old) (joined (leaves left old) new)

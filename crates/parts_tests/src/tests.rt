@@ -2,6 +2,7 @@
 mod counts;
 mod exporters;
 mod jobs;
+mod ledgers;
 mod output_files;
 mod queues;
 mod queues_of_threads;

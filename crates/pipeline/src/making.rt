@@ -83,6 +83,7 @@ pub fn make<
     (Vec<Server>, TickSource),
 >
     requires runs { CanRun config.now QueueRoom.capacity ExportRoom.capacity }
+    requires waits { config.now.waits_for_room ≡ QueueRoom.waits }
     requires acceptors { vec_len acceptors ≡ config.now.lanes }
     ensures lanes { IfOk result (λ made. (vec_len made.team.first ≡ config.now.lanes)
         × All (λ job. (job.lane.number ≡ job.number) × (job.room.items ≡ []) × (length job.lane.ports ≤ vec_capacity job.room)) made.team.first.items) }
@@ -158,6 +159,7 @@ fn team_of<
     (Vec<Server>, TickSource),
 >
     requires runs { CanRun config.now QueueRoom.capacity ExportRoom.capacity }
+    requires waits { config.now.waits_for_room ≡ QueueRoom.waits }
     requires acceptors { (vec_len acceptors ≡ config.now.lanes) × (vec_len acceptors < 65536) }
     requires columns { (vec_len columns ≡ config.now.lanes + 1) × All (λ c. 0 < length c.items) columns.items }
     requires seats { AreNewSeats (nodes_of config.now) config.now.shards ends.seats.items }

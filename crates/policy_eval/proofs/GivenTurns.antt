@@ -103,13 +103,6 @@ module _ (bs : List Bool) (spans : List Arrival) where
     pub tells : Tells seen (answers_given rest (drop next bs) spans) (answers_given all bs spans)
     pub asked : (first : ℕ) × (length (asked_given all bs spans) ≡ next + length (nodes_asked_at_top rest first (drop next bs) spans))
 
-  pub at_top-first : (all : Policies) → nodes_in all ≤ 64 → AtTop all all 0 none_seen
-  at_top-first all h = record {
-    few = omega (arith, h);
-    tells = tells-none (answers_given all bs spans);
-    asked = (0, omega arith);
-  }
-
   pub at_top-more : (all : Policies) (p : Policy) (rest : Policies) (next behind : ℕ) (seen : AnswersSeen) (a : Answer) → AtTop all (one_more p rest) next seen → Taken p next behind a → AtTop all rest behind (seen_with a seen)
   at_top-more all p rest next behind seen a w k =
       let left = taken-left p next behind a k in

@@ -48,9 +48,6 @@ knows-same : (old new : ℕ → Bool) (ls : List LimiterNode) → ((m : ℕ) →
 knows-same old new [] h = refl
 knows-same old new (l ∷ ls) h = rw (h l.node, knows-same old new ls h)
 
-pub knows-first : (has : ℕ → Bool) (p : Policy) (rest : Policies) (node : ℕ) → knows has (limits_in (one_more p rest) node) ≡ true → knows has (limits p node) ≡ true
-knows-first has p rest node h = (and_parts (knows has (limits p node)) (knows has (limits_in rest (node + nodes p))) (sym (knows-append has (limits p node) (limits_in rest (node + nodes p))) ∙ h)).0
-
 pub knows-rest : (old new : ℕ → Bool) (p : Policy) (rest : Policies) (node : ℕ) → ((m : ℕ) → new m ≡ old m) → knows old (limits_in (one_more p rest) node) ≡ true → knows new (limits_in rest (node + nodes p)) ≡ true
 knows-rest old new p rest node e h = knows-same old new (limits_in rest (node + nodes p)) e ∙ (and_parts (knows old (limits p node)) (knows old (limits_in rest (node + nodes p))) (sym (knows-append old (limits p node) (limits_in rest (node + nodes p))) ∙ h)).1
 

@@ -1,6 +1,6 @@
 -- The verdict by which answers policies gave, and what is made of them. For the clauses of `evaluate`, `answer`,
 -- `verdict_and_askings` and `answer_given`, and the contract of `earliest_start`.
-use Rattle.std.proofs.Common.{◌≡◌, ℕ, suc, ◌+◌, ◌<◌, min, max, Bool, true, false, ◌||◌, not, cond, List, [], ◌∷◌, length, drop, get_or, Option, Some, None, refl, sym, ap, ◌∙◌, arith, drop-cons, add-one}
+use Rattle.std.proofs.Common.{◌≡◌, ℕ, suc, ◌+◌, ◌<◌, min, Bool, true, false, ◌||◌, not, cond, List, [], ◌∷◌, length, drop, get_or, Option, Some, None, refl, sym, ap, ◌∙◌, arith, drop-cons, add-one}
 use Rattle.std.specs.List.{list_all, list_any, position_from}
 use Rattle.std.specs.Option.{option_or}
 use Rattle.policy_tree.specs.declared.policy.Join.{Join}
@@ -149,14 +149,6 @@ ends-is FirstMatch spec.inverted_not_sample = refl
 ends-is FirstMatch spec.dropped = refl
 
 -- ---- latencies
-
-pub latest-next : (m : ℕ) (spans : List Arrival) (i : ℕ) (a : Arrival) → i < length spans → a ≡ get_or spans i a → max m (spec.latest_end (drop i spans)) ≡ max (max a.rec.span.end_time_unix_nano m) (spec.latest_end (drop (i + 1) spans))
-latest-next m spans i a h e =
-    let here : spec.latest_end (drop i spans) ≡ max a.rec.span.end_time_unix_nano (spec.latest_end (drop (i + 1) spans))
-    = ap spec.latest_end (drop-cons spans i a h)
-    ∙ ap (λ (b : Arrival). max b.rec.span.end_time_unix_nano (spec.latest_end (drop (suc i) spans))) (sym e)
-    ∙ ap (λ k. max a.rec.span.end_time_unix_nano (spec.latest_end (drop k spans))) (sym (add-one i)) in
-    omega (arith, here)
 
 earliest-shift : (x m : ℕ) (spans : List Arrival) → spec.earliest_with (min x m) spans ≡ min x (spec.earliest_with m spans)
 earliest-shift x m [] = refl

@@ -91,14 +91,6 @@ knows-own (c ∷ cs) = let own : (c.node == c.node) ≡ true = grind (arith, nat
 pub counts_know : (policies : Policies) (counts : List LimiterCount) → map limiter_of counts ≡ limiters policies → knows (has_node counts) (limiters policies) ≡ true
 counts_know policies counts e = let P = λ (ls : List LimiterNode). knows (has_node counts) ls ≡ true in subst P e (knows-own counts)
 
--- and stay so
-pub counts_stay : (second : ℕ) (amounts : ℕ → ℕ) (ms : List ℕ) (bs : List Bool) (old new : List LimiterCount) → Asked AsksBudgets second amounts ms bs old new → map limiter_of new ≡ map limiter_of old
-counts_stay second amounts [] [] old new h = ap (map limiter_of) h
-counts_stay second amounts [] (b ∷ bs) old new h = absurd h
-counts_stay second amounts (m ∷ ms) [] old new h = absurd h
-counts_stay second amounts (m ∷ ms) (b ∷ bs) old new h =
-    counts_stay second amounts ms bs h.0 new h.2 ∙ ap (map limiter_of) h.1.1 ∙ limits-law old m second (amounts m)
-
 -- ---- the amounts
 
 -- nodes behind the first one have its amount not

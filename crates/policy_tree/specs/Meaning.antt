@@ -25,10 +25,6 @@ policy_step p = p.kind
 abbrev pub policy_meaning : Policy → tree.Policy
 policy_meaning = fold-Policy tree.Policy tree.Policy kind_step policy_step
 
--- the policy of a kind
-abbrev pub kind_meaning : PolicyKind → tree.Policy
-kind_meaning = fold-PolicyKind tree.Policy tree.Policy kind_step policy_step
-
 -- the policies without their names, in order
 abbrev pub meaning : List Policy → tree.Policies
 meaning policies = in_order (map policy_meaning policies)

@@ -1,7 +1,8 @@
--- For how long answers ask to wait, computed.
+-- For how long answers ask to wait, and how many heads may come, computed.
 use Rattle.std.proofs.Common.{◌≡◌, [], ◌∷◌, Some, None, codes, refl}
 use Rattle.http1.specs.Text.{eq_ignore_case}
 use Rattle.post_http.specs.Waits.{seconds_of, wait_in}
+use Rattle.post_http.specs.declared.reading.TheConstants.{FIELD_LIMIT, INTERIM_LIMIT}
 
 seven_seconds : seconds_of (codes "7") ≡ Some 7
 seven_seconds = refl
@@ -28,3 +29,7 @@ the_first_of_its_name = refl
 no_such_field : wait_in ((codes "Retry", codes "3") ∷ []) ≡ None
 unfolding eq_ignore_case
 no_such_field = refl
+
+-- how many fields a head may have, and how many heads may stand in front of a body
+limits : FIELD_LIMIT ∷ INTERIM_LIMIT ∷ [] ≡ 64 ∷ 8 ∷ []
+limits = refl

@@ -1,6 +1,6 @@
 -- What a client sees, read by read.
 -- For the contracts of `heads_in` and `body_in`.
-use Rattle.std.proofs.Common.{◌≡◌, ℕ, Bool, true, false, cond, ◌&&◌, List, [], ◌∷◌, ◌++◌, length, drop, take, map, Option, Ok, refl, sym, ap, subst, ◌∙◌, append-nil, append_assoc, inl, inr, ◌⊎◌, IsFalse}
+use Rattle.std.proofs.Common.{◌≡◌, ℕ, Bool, true, false, cond, ◌&&◌, List, [], ◌∷◌, ◌++◌, ◌+◌, length, length-append, drop, take, map, Option, Ok, refl, sym, ap, subst, ◌∙◌, append-nil, append_assoc, inl, inr, ◌⊎◌, IsFalse}
 use Rattle.httparse.specs.Spans.{span_bytes, header_bytes}
 use Rattle.httparse.specs.declared.spans.HeaderSpan.{HeaderSpan}
 use Rattle.httparse.specs.declared.spans.ResponseSpans.{ResponseSpans}
@@ -29,8 +29,8 @@ reads_on c new input spans read later rest h t =
     subst (λ (s : List ℕ). Trace c s (observe c.method input spans read.event later) rest) (append-nil input)
     (reads c new input [] spans read later rest h (subst (λ (s : List ℕ). Trace new s later rest) (sym (append-nil (drop read.consumed input))) t))
 
-pub sees_first : (bytes : List ℕ) (c : Client) → LeadsTo (new_client limits) c → SeesBehind bytes c bytes
-sees_first bytes c leads later rest t = (later, [], leads bytes later rest t, refl)
+pub sees_first : (bytes : List ℕ) (c : Client) → LeadsTo (new_client limits) c → SeesBehind 0 bytes c bytes
+sees_first bytes c leads later rest t = (later, [], leads bytes later rest t, refl, refl)
 
 -- the same, of a read whose event is this one
 reads_event : (c new : Client) (input : List ℕ) (spans : List HeaderSpan) (read : Progress ResponseSpans) (event : Event ResponseSpans) (later : Seen) (rest : List ℕ) → read.event ≡ event → ClientReads c input spans new read
@@ -50,11 +50,12 @@ seen_head c input spans r later = record {
 }
 
 -- an interim head is one response more in front
-pub sees_interim : (bytes : List ℕ) (c new : Client) (input : List ℕ) (spans : List HeaderSpan) (read : Progress ResponseSpans) (r : ResponseSpans) → read.event ≡ Informational r → SeesBehind bytes c input
-    → ClientReads c input spans new read → SeesBehind bytes new (drop read.consumed input)
-sees_interim bytes c new input spans read r e sees h later rest t =
+pub sees_interim : (count : ℕ) (bytes : List ℕ) (c new : Client) (input : List ℕ) (spans : List HeaderSpan) (read : Progress ResponseSpans) (r : ResponseSpans) → read.event ≡ Informational r → SeesBehind count bytes c input
+    → ClientReads c input spans new read → SeesBehind (count + 1) bytes new (drop read.consumed input)
+sees_interim count bytes c new input spans read r e sees h later rest t =
     let s = sees (observe c.method input spans (Informational r) later) rest (reads_event c new input spans read (Informational r) later rest e h t) in
-    (s.0, s.1 ++ seen_head c input spans r later ∷ [], s.2, s.3 ∙ sym (append_assoc s.1 (seen_head c input spans r later ∷ []) later.responses))
+    let one : List SeenResponse = seen_head c input spans r later ∷ [] in
+    (s.0, s.1 ++ one, s.2, s.3 ∙ sym (append_assoc s.1 one later.responses), length-append s.1 one ∙ ap (λ n. n + 1) s.4)
 
 -- a read of one event that is the read of another one
 same_event : (consumed : ℕ) (e f : Event ResponseSpans) → (let x : Progress ResponseSpans = record { consumed = consumed; event = e } in x) ≡ no_progress f → e ≡ f
@@ -79,16 +80,13 @@ at_event : (c new : Client) (input : List ℕ) (spans : List HeaderSpan) (read :
 at_event c new input spans read event e h = subst (λ (x : Event ResponseSpans). ClientReads c input spans new (record { consumed = read.consumed; event = x })) e h
 
 -- behind the head of a final answer its body is seen
-pub sees_final : (bytes : List ℕ) (c new : Client) (input : List ℕ) (spans : List HeaderSpan) (read : Progress ResponseSpans) (r : ResponseSpans) (wait : Option ℕ) → read.event ≡ Head r → SeesBehind bytes c input
+pub sees_final : (count : ℕ) (bytes : List ℕ) (c new : Client) (input : List ℕ) (spans : List HeaderSpan) (read : Progress ResponseSpans) (r : ResponseSpans) (wait : Option ℕ) → read.event ≡ Head r → SeesBehind count bytes c input
     → ClientReads c input spans new read → wait ≡ wait_in (map (header_bytes input) (take r.headers spans))
     → Behind new bytes r.code wait (drop read.consumed input)
-sees_final bytes c new input spans read r wait is_head sees h e later rest none t =
+sees_final count bytes c new input spans read r wait is_head sees h e later rest none t =
     let s = sees (observe c.method input spans (Head r) later) rest (reads_event c new input spans read (Head r) later rest is_head h t) in
     let last = seen_head c input spans r later in
     (last, record { seen = s.0; rest = rest; trace = s.2; before = s.1; are = s.3 ∙ ap (λ (rs : List SeenResponse). s.1 ++ last ∷ rs) none; is_final = head_in c.reading c new input spans read.consumed r (at_event c new input spans read (Head r) is_head h) }, refl, e, refl)
-
-pub body_first : (c : Client) (bytes : List ℕ) → SeesBody c bytes [] c bytes
-body_first c bytes later rest t = t
 
 -- a piece of the body stands behind those before it
 pub body_more : (start : Client) (bytes so_far : List ℕ) (c new : Client) (input : List ℕ) (spans : List HeaderSpan) (read : Progress ResponseSpans) (s : Span) → read.event ≡ Data s → SeesBody start bytes so_far c input

@@ -10,7 +10,8 @@ use Rattle.post_http.specs.declared.answer.FoundResponse.{FoundResponse}
 use Rattle.post_http.specs.declared.answer.FoundResponse.TheVariants.{Whole, More, Broken}
 use Rattle.post_http.specs.declared.reading.Headed.{Headed}
 use Rattle.post_http.specs.declared.reading.Heads.{Heads}
-use Rattle.post_http.specs.declared.reading.Heads.TheVariants.{Final, More as NoHead, Broken as BadHead}
+use Rattle.post_http.specs.declared.reading.Heads.TheVariants.{Final, More as NoHead, Broken as BadHead, TooMany}
+use Rattle.post_http.specs.declared.reading.TheConstants.{INTERIM_LIMIT}
 use Rattle.post_http.specs.Waits.{wait_in}
 
 -- what an answer may take at most
@@ -48,11 +49,16 @@ IsFoundIn bytes Broken = Unit {0}
 
 -- ---- on the way there
 
--- what this client sees in the rest of the bytes stands behind responses that were seen before
-abbrev pub SeesBehind : (bytes : List ℕ) → Client → (left : List ℕ) → Type 0
-SeesBehind bytes client left =
+-- what this client sees in the rest of the bytes stands behind so many responses that were seen before
+abbrev pub SeesBehind : (count : ℕ) → (bytes : List ℕ) → Client → (left : List ℕ) → Type 0
+SeesBehind count bytes client left =
     (later : Seen) (rest : List ℕ) → Trace client left later rest
-    → (seen : Seen) × (before : List SeenResponse) × Trace (new_client limits) bytes seen rest × (seen.responses ≡ before ++ later.responses)
+    → (seen : Seen) × (before : List SeenResponse) × Trace (new_client limits) bytes seen rest × (seen.responses ≡ before ++ later.responses) × (length before ≡ count)
+
+-- more interim heads than may be: as many were read as heads may stand in front of a body, and the bytes go on behind
+-- them
+abbrev pub HasTooManyHeads : (bytes : List ℕ) → Type 0
+HasTooManyHeads bytes = (client : Client) × (left : List ℕ) × SeesBehind INTERIM_LIMIT bytes client left
 
 -- what is seen later, with bytes of the body in front
 abbrev pub with_body : (so_far : List ℕ) → Seen → Seen
@@ -78,6 +84,7 @@ abbrev pub HeadsIn : (bytes : List ℕ) → Heads → Type 0
 HeadsIn bytes (Final h) = IsHeaded bytes h
 HeadsIn bytes NoHead = Unit {0}
 HeadsIn bytes BadHead = Unit {0}
+HeadsIn bytes TooMany = HasTooManyHeads bytes
 
 -- what was found behind a head
 abbrev pub BodyIn : Headed → (bytes : List ℕ) → FoundResponse → Type 0

@@ -37,6 +37,8 @@ pub enum Heads {
     More,
     /// No head, whatever comes.
     Broken,
+    /// As many interim heads as heads may be.
+    TooMany,
 }
 
 /// What these bytes hold, that came behind a request, where the peer has closed its side or not.
@@ -51,7 +53,7 @@ pub fn found(alloc: Global, bytes: &[u8], is_ended: bool) -> Result<FoundRespons
     match heads_in(client, bytes) {
         Heads::Final(headed) => body_in(alloc, headed, bytes, is_ended),
         Heads::More => Ok(FoundResponse::More),
-        Heads::Broken => Ok(FoundResponse::Broken),
+        Heads::Broken | Heads::TooMany => Ok(FoundResponse::Broken),
     }
 }
 
@@ -72,7 +74,7 @@ fn heads_in(client: Client, bytes: &[u8]) -> Heads
     let mut client = client;
     let mut spans = [EMPTY_HEADER_SPAN; FIELD_LIMIT];
     let mut at = 0;
-    for _ in 0..INTERIM_LIMIT {
+    for heads in 0..INTERIM_LIMIT {
         let rest = behind(bytes, at);
         let Ok(Progress { consumed, event }) = client.read(rest, &mut spans) else {
             return Heads::Broken;
@@ -91,7 +93,7 @@ fn heads_in(client: Client, bytes: &[u8]) -> Heads
             _ => return Heads::Broken,
         }
     }
-    Heads::Broken
+    Heads::TooMany
 }
 
 /// Reads the body behind a head.

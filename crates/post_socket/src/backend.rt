@@ -93,9 +93,16 @@ impl<'t, V: Watch, R: Net<Stream = TcpStream> + Clock + RandomSource> SocketBack
         }
     }
 
+    /// How many milliseconds are left, once the collector closes.
+    fn time_left(&self) -> Option<u64> {
+        let since = self.closing_since?;
+        let closing = elapsed(self.rt, &self.began).saturating_sub(since);
+        Some(self.settings.close_wait.saturating_sub(closing))
+    }
+
     /// How long an attempt may take now, which is at least a millisecond.
     fn limit(&self) -> u64 {
-        let limit = match self.left() {
+        let limit = match self.time_left() {
             Some(left) => left.min(self.settings.timeout),
             None => self.settings.timeout,
         };
@@ -214,7 +221,7 @@ impl<'t, V: Watch, R: Net<Stream = TcpStream> + Clock + RandomSource> Backend
 
     fn attempt(&mut self, batch: &[u8]) -> AttemptOutcome {
         self.look();
-        if self.left() == Some(0) {
+        if self.time_left() == Some(0) {
             return AttemptOutcome::NoAnswer;
         }
         let outcome = self.send(batch);
@@ -235,7 +242,7 @@ impl<'t, V: Watch, R: Net<Stream = TcpStream> + Clock + RandomSource> Backend
                 return;
             }
             self.look();
-            if self.left() == Some(0) {
+            if self.time_left() == Some(0) {
                 return;
             }
             let slice = (milliseconds - waited).min(SLICE);
@@ -243,7 +250,7 @@ impl<'t, V: Watch, R: Net<Stream = TcpStream> + Clock + RandomSource> Backend
         }
     }
 
-    fn now(&self) -> u64 {
+    fn now(&mut self) -> u64 {
         elapsed(self.rt, &self.began)
     }
 
@@ -255,9 +262,7 @@ impl<'t, V: Watch, R: Net<Stream = TcpStream> + Clock + RandomSource> Backend
         }
     }
 
-    fn left(&self) -> Option<u64> {
-        let since = self.closing_since?;
-        let closing = elapsed(self.rt, &self.began).saturating_sub(since);
-        Some(self.settings.close_wait.saturating_sub(closing))
+    fn left(&mut self) -> Option<u64> {
+        self.time_left()
     }
 }

@@ -27,12 +27,6 @@ Counts-start old at count h g = record {
   writes = Writes-start (take at old) count g;
 }
 
-pub Counts-within : (old : List ℕ) (at count i : ℕ) (out : List ℕ) (left : ℕ) → Counts old at count i out left → at + i < length out
-Counts-within old at count i out left c =
-    let e : length out ≡ length c.front + length (c.free ∷ drop (at + 1) old) = ap length c.is ∙ length-append c.front (c.free ∷ drop (at + 1) old) in
-    let p : length c.front ≡ at + i = c.place in
-    omega (arith, e, p)
-
 inserted : (front rest : List ℕ) (free d k : ℕ) → length front ≡ k → insert (front ++ free ∷ rest) k d ≡ (front ++ d ∷ []) ++ free ∷ rest
 inserted front rest free d k e =
     let xs : List ℕ = front ++ free ∷ rest in
@@ -67,13 +61,6 @@ counted-short old at count new h e g is =
     let n : count ≡ length (drop (at + 1) old) = omega (arith, length-drop (at + 1) old) in
     Counts-end old at count 0 old new count (Counts-start old at count h (omega arith)) (omega arith) g (is ∙ ap (λ k. set old k count) (let p : at ≡ at + 0 = omega arith in p))
     ∙ ap (λ k. take at old ++ (written 10 k ++ drop (at + 1) old)) n
-
--- any count
-pub counted-long : (old : List ℕ) (at count : ℕ) (new : List ℕ) → at < length old → count ≡ length old - at - 1
-    → new ≡ take at old ++ (written 10 count ++ drop (at + 1) old) → new ≡ take at old ++ counted_bytes (drop (at + 1) old)
-counted-long old at count new h e is =
-    let n : count ≡ length (drop (at + 1) old) = omega (arith, length-drop (at + 1) old) in
-    is ∙ ap (λ k. take at old ++ (written 10 k ++ drop (at + 1) old)) n
 
 -- behind nine bytes one bit is left
 pub Counts-small : (old : List ℕ) (at count i : ℕ) (out : List ℕ) (left : ℕ) → Counts old at count i out left → i ≡ 9 → left < 128

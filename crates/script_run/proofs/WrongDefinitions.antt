@@ -13,6 +13,7 @@ use Rattle.lane_queue.specs.Queues.{QueueState, TakesLast, IsFull}
 use Rattle.lane_seq.specs.Pushes.{Receives as IsPushed}
 use Rattle.lane_seq.specs.declared.reply.Reply.TheVariants.{Done, Busy}
 use Rattle.journal_theory.specs.Journal.{Settings, Journal, Entry, notes, have_ended}
+use Rattle.journal_theory.proofs.Samples.{plain_settings}
 use Rattle.span_sink.specs.LineSinks.{LineSinkState}
 use Rattle.span_exporter.specs.Exports.{WritesLine}
 use Rattle.span_exporter.specs.declared.answer.Flushed.{Flushed}
@@ -37,7 +38,7 @@ use Rattle.script_run.specs.Laws.{Agrees, CalmRunsAgree}
 -- ---- one lane and one shard
 
 abbrev pub own : Settings
-own = record { policies = always; decision_wait = 10; root_wait = 0; maximum_trace_size = 0; num_traces = Some 1; sampled_cache_size = 1; non_sampled_cache_size = 1; senders = 2 }
+own = record (plain_settings always) { num_traces = Some 1; sampled_cache_size = 1; non_sampled_cache_size = 1 }
 
 -- batches of one span, queues of this capacity, and doubles that are discarded
 abbrev pub with_queue : ℕ → Sizes

@@ -1,6 +1,6 @@
 -- The shards from a place on: the one there, and the others.
 use Rattle.std.proofs.Common.{◌≡◌, ℕ, ◌+◌, ◌<◌, ◌≤◌, List, ◌∷◌, length, drop, set, get_or, length-drop, sym, ap, ◌∙◌, arith}
-use Rattle.std.proofs.lemmas.List.{drop_more, drop-set-lt, get_or-set_same, get_or-set_other}
+use Rattle.std.proofs.lemmas.List.{drop_more, drop-set-lt, get_or-set_same}
 use Rattle.shard_core.specs.Held.{Held}
 use Rattle.script_session.specs.Pulling.{StayBefore}
 
@@ -8,9 +8,6 @@ use Rattle.script_session.specs.Pulling.{StayBefore}
 pub drop-changed : (old new : List Held) (place : ℕ) (one : Held) → place < length old → length new ≡ length old → StayBefore (place + 1) (set old place one) new → drop place new ≡ one ∷ drop (place + 1) new
 drop-changed old new place one within same stays =
     drop_more new place one (omega (arith, within, same)) ∙ ap (λ h. h ∷ drop (place + 1) new) (stays place one (omega arith) ∙ get_or-set_same old place one one within)
-
-pub stay-before : (old new : List Held) (place : ℕ) (one : Held) → StayBefore (place + 1) (set old place one) new → StayBefore place old new
-stay-before old new place one stays k h before = stays k h (omega (arith, before)) ∙ get_or-set_other old place k one h (λ e. absurd (omega (arith, before, e)))
 
 -- what stands there, and the others
 pub at-place : (all : List Held) (place : ℕ) (one : Held) → place < length all → one ≡ get_or all place one → drop place all ≡ one ∷ drop (place + 1) all

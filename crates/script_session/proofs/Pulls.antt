@@ -1,6 +1,6 @@
 -- Spans go into the batch, and batches to the sink.
 -- For the contracts of `end_all`, `pull`, `pull_all` and `count_dropped`.
-use Rattle.std.proofs.Common.{◌≡◌, ◌≢◌, ℕ, ◌+◌, ◌<◌, ◌≤◌, ◌==◌, Bool, true, false, Option, List, [], ◌∷◌, ◌++◌, length, refl, sym, ap, subst, ◌∙◌, arith, append_assoc, append-nil, length-append, if◌then◌else◌}
+use Rattle.std.proofs.Common.{◌≡◌, ◌≢◌, ℕ, ◌+◌, ◌<◌, ◌≤◌, ◌==◌, Bool, true, false, Option, List, [], ◌∷◌, ◌++◌, length, refl, sym, ap, subst, ◌∙◌, arith, append_assoc, append-nil, if◌then◌else◌}
 use Rattle.std.specs.List.{AllByRecursion}
 use Rattle.std.proofs.lemmas.Grind.{flat_map-append}
 use Rattle.std.proofs.lemmas.Bool.Decides.{nat_tests}
@@ -110,32 +110,6 @@ pulled-part old new r a is = record {
   size = ap (λ (e : ExporterState). e.size) is;
   ends = ap (λ (e : ExporterState). e.ends) is;
 }
-
-pub part-room : (p : Pulled) (old new : ExporterState) (a : Arrival) → length old.batch < old.size → new ≡ with_shipment (Span a) old → p ≡ answer_to (Span a) old new
-    → (p ≡ AddedFull → ⊥) → length new.batch < new.size
-part-room p old new a room is answer other =
-    let differs : length new.batch ≢ new.size = not_full p (length new.batch) new.size answer other in
-    let size_is : new.size ≡ old.size = ap (λ (e : ExporterState). e.size) is in
-    let longer : length new.batch ≡ length old.batch + 1 = ap (λ (e : ExporterState). length e.batch) is ∙ length-append old.batch (a ∷ []) in
-    omega (arith, differs)
-
--- spans were counted as dropped for this reason, and nothing came into the batch
-pub pulled-dropped : (old new : Export) (why : Reason) (spans : ℕ) → new.0 ≡ old.0 → Adds old.1 (at_count (Dropped why) spans) new.1
-    → PullsAll old [] (λ reason. if is_same_reason why reason then spans else 0) new
-pulled-dropped old new why spans same adds = record {
-  batches = [];
-  full = tt;
-  are_all = ap (λ (e : ExporterState). e.batch) same ∙ sym (append-nil old.0.batch);
-  sends = ap (λ (e : ExporterState). e.sink) same;
-  adds = Adds-same old.1 new.1 _ _ (λ k. let at = dropped-at k in omega (arith, at)) adds;
-  size = ap (λ (e : ExporterState). e.size) same;
-  ends = ap (λ (e : ExporterState). e.ends) same;
-}
-  where
-    dropped-at : (k : Count) → at_reasons (λ reason. if is_same_reason why reason then spans else 0) k ≡ at_count (Dropped why) spans k
-    dropped-at Received = refl
-    dropped-at HandedOver = refl
-    dropped-at (Dropped reason) = refl
 
 -- ---- the last batch of a line
 

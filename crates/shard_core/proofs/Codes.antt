@@ -9,9 +9,9 @@ use Rattle.span_ids.specs.declared.outcome.Reason.TheVariants.{NoMemory}
 use Rattle.otlp_types.specs.declared.arrival.Arrival.{Arrival}
 use Rattle.policy_tree.specs.declared.policy.Policy.{Policy}
 use Rattle.trace_buffer.specs.Buffer.{Episode, Buffer, append_first, episode_of, state_of, state_of_verdict, after_opening, opening_episode, leaves}
-use Rattle.trace_buffer.specs.declared.episode.State.TheVariants.{Undecided, Decided}
+use Rattle.trace_buffer.specs.declared.episode.State.TheVariants.{Undecided}
 use Rattle.trace_buffer.specs.declared.episode.Evicted.{Evicted}
-use Rattle.decision_cache.specs.Lists.{CacheLists, TraceList, asked, after_asking, list_after_put, puts, PutAs, Remembers}
+use Rattle.decision_cache.specs.Lists.{CacheLists, TraceList, asked, list_after_put, puts, PutAs, Remembers}
 use Rattle.decision_cache.specs.declared.traces.Remembered.{Remembered}
 use Rattle.decision_cache.specs.declared.traces.Remembered.TheVariants.{Kept as InCache, Off, Lost}
 use Rattle.journal_theory.specs.Journal.{Settings, cache_size}
@@ -19,13 +19,13 @@ use Rattle.journal_theory.specs.Standing.{Standing}
 use Rattle.shard_core.specs.Held.{Held, held_of, settings}
 use Rattle.journal_theory.specs.Keeping.{after_span_of, after_episode, after_known, after_unknown, after_leaving, after_leaving_decided, with_caches}
 use Rattle.journal_theory.specs.Laws.{State, state_in, state_by}
-use Rattle.shard_core.specs.Taking.{is_refusal, is_loss, answer_to_late, put_answer, put_in}
+use Rattle.shard_core.specs.Taking.{is_refusal, is_loss, put_answer, put_in}
 use Rattle.journal_theory.specs.Marked.{cache_is_on}
 use Rattle.shard_core.specs.Holding.{answer_held, verdict_leaving, marks_held, at_clock, TakesSpanOf, Puts, PutsDecided, KeepsAs}
 use Rattle.shard_core.specs.declared.answer.Taken.{Taken}
 use Rattle.shard_core.specs.declared.answer.Taken.TheVariants.{Kept, Dropped, Late, Ticked, Ended, Finished}
 use Rattle.decision_cache.specs.Touches.{is_lost}
-use Rattle.journal_theory.proofs.StandingParts.{state_asked, sizes_asked}
+use Rattle.journal_theory.proofs.StandingParts.{state_asked}
 use Rattle.shard_core.specs.declared.setup.Waits.{Waits}
 
 -- ---- what `find` says of the trace's episode
@@ -38,26 +38,9 @@ undecided_episode (Some x) h = go x.verdict refl (cc h)
     go None e h = (x, refl, e)
     go (Some v) e h = absurd (cc h)
 
-decided_episode : (e : Option Episode) (v : Verdict) → state_of e ≡ Some (Decided v) → (x : Episode) × (e ≡ Some x) × (x.verdict ≡ Some v)
-decided_episode None v h = absurd (cc h)
-decided_episode (Some x) v h = go x.verdict refl (cc h)
-  where
-    go : (u : Option Verdict) → x.verdict ≡ u → state_of_verdict u ≡ Decided v → (y : Episode) × (Some x ≡ Some y) × (y.verdict ≡ Some v)
-    go None e h = absurd (cc h)
-    go (Some u) e h = let same : u ≡ v = cc h in (x, refl, e ∙ ap (λ (z : Verdict). Some z) same)
-
 pub no_episode : (e : Option Episode) → state_of e ≡ None → e ≡ None
 no_episode None h = refl
 no_episode (Some x) h = absurd (cc h)
-
--- a late span is neither refused nor is anything lost
-late_refusal : (a : Arrival) (v : Verdict) → is_refusal (answer_to_late a v) ≡ false
-late_refusal a Sampled = refl
-late_refusal a NotSampled = refl
-
-late_loss : (a : Arrival) (v : Verdict) → is_loss (answer_to_late a v) ≡ false
-late_loss a Sampled = refl
-late_loss a NotSampled = refl
 
 module _ (p : List Policy) (waits : Waits) (b : Buffer) (c : CacheLists) (cl mk : ℕ) (en : List Bool) (a : Arrival) (t : TraceId) where
   abbrev old : Held
@@ -97,12 +80,6 @@ module _ (p : List Policy) (waits : Waits) (b : Buffer) (c : CacheLists) (cl mk 
       let x = undecided_episode (episode_of t b.episodes) h in
       by_state (Dropped NoMemory) (new_of d c) true false (Some None) refl refl (state_known x.0 x.1 ∙ ap (λ (v : Option Verdict). Some v) x.2) (ap (λ (z : Buffer). new_of z c) e) refl refl
 
-  pub late_known : (v : Verdict) (answer : Taken) → state_of (episode_of t b.episodes) ≡ Some (Decided v) → answer ≡ answer_to_late a v → TakesSpanOf old a t answer (new_of b c)
-  late_known v answer h q =
-      let x = decided_episode (episode_of t b.episodes) v h in
-      by_state answer (new_of b c) false false (Some (Some v)) (ap is_refusal q ∙ late_refusal a v) (ap is_loss q ∙ late_loss a v) (state_known x.0 x.1 ∙ ap (λ (v : Option Verdict). Some v) x.2)
-      (ap (λ (z : Standing). record old { standing = z }) (sym (after_by false (Some x.0) x.1 ∙ ap (after_known t a st) x.2))) q refl
-
   -- a shard with other lists
   abbrev sized : Buffer → CacheLists → (num_traces sampled_cache_size non_sampled_cache_size : ℕ) → Held
   sized d e num_traces sampled_cache_size non_sampled_cache_size = record { policies = p; waits = waits; num_traces = num_traces; sampled_cache_size = sampled_cache_size; non_sampled_cache_size = non_sampled_cache_size; standing = record (with_caches e st) { episodes = d.episodes } }
@@ -113,14 +90,6 @@ module _ (p : List Policy) (waits : Waits) (b : Buffer) (c : CacheLists) (cl mk 
   -- where the limit and the sizes are as before
   resized : (d : Buffer) (e : CacheLists) → d.num_traces ≡ b.num_traces → e.sampled.size ≡ c.sampled.size → e.not_sampled.size ≡ c.not_sampled.size → new_of d e ≡ record old { standing = record (with_caches e st) { episodes = d.episodes } }
   resized d e l x y = at_sizes d e d.num_traces b.num_traces e.sampled.size c.sampled.size e.not_sampled.size c.not_sampled.size l x y
-
-  pub late_cached : (v : Verdict) (answer : Taken) → state_of (episode_of t b.episodes) ≡ None → asked t c ≡ Some v → (e : CacheLists) → e ≡ after_asking t c → answer ≡ answer_to_late a v → TakesSpanOf old a t answer (new_of b e)
-  late_cached v answer h g e q r =
-      let n = no_episode (episode_of t b.episodes) h in
-      let z = sizes_asked t c in
-      by_state answer (new_of b e) false false (Some (Some v)) (ap is_refusal r ∙ late_refusal a v) (ap is_loss r ∙ late_loss a v) (state_unknown n ∙ ap (option_map (λ (v : Verdict). Some v)) g)
-      (resized b e refl (ap (λ (l : CacheLists). l.sampled.size) q ∙ z.0) (ap (λ (l : CacheLists). l.not_sampled.size) q ∙ z.1)
-      ∙ ap (λ (z : Standing). record old { standing = z }) (ap (λ (l : CacheLists). with_caches l st) q ∙ sym (after_by false None n ∙ ap (after_unknown s b.num_traces false t a st) g))) r refl
 
   pub refused_opening : (answer : Taken) → answer ≡ Dropped NoMemory → state_of (episode_of t b.episodes) ≡ None → asked t c ≡ None → (d : Buffer) (e : CacheLists) → d ≡ b → e ≡ c → TakesSpanOf old a t answer (new_of d e)
   refused_opening answer r h g d e q z =
@@ -211,9 +180,6 @@ module _ (p : List Policy) (waits : Waits) (b : Buffer) (c : CacheLists) (cl mk 
   put_done : (left : Option Evicted) (r : Option Remembered) (e : CacheLists) → Puts left c r e → PutDone left r e
   put_done None r e q = put_none None r e refl q.0 q.1 (is_loss (Kept None r)) refl
   put_done (Some x) r e q = put_left x x.verdict r e refl q
-
-  kept_refusal : (left : Option Evicted) (r : Option Remembered) → is_refusal (Kept left r) ≡ false
-  kept_refusal left r = refl
 
   pub opened : (answer : Taken) (left : Option Evicted) (r : Option Remembered) → answer ≡ Kept left r → state_of (episode_of t b.episodes) ≡ None → asked t c ≡ None → (d : Buffer) (e : CacheLists) → left ≡ leaves b → d ≡ after_opening b (opening_episode t a (max a.moment cl) waits.maximum_trace_size) → Puts left c r e → TakesSpanOf old a t answer (new_of d e)
   opened answer left r x h g d e l z q =

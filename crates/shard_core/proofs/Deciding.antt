@@ -28,10 +28,6 @@ use Rattle.shard_core.proofs.Effects.{nothing_adds, decision_adds}
 
 -- ---- by what the code asks the buffer
 
-and-yes : (b : Bool) → (b && true) ≡ b
-and-yes true = refl
-and-yes false = refl
-
 add-none : (n : ℕ) → n + 0 ≡ n
 add-none n = omega arith
 

@@ -1,7 +1,6 @@
 -- The code's steps keep each trace once in the buffer, out of the caches, and opened by the clock.
 -- For the contracts of `decide`, `new`, `take_span` and `take_tick`.
-use Rattle.std.proofs.Common.{◌≡◌, ℕ, zero, suc, ◌-◌, ◌<◌, ◌≤◌, nat_le, ◌==◌, Bool, true, false, ◌&&◌, ◌||◌, cond, List, [], ◌∷◌, ◌++◌, length, take, drop, slice_get, Option, Some, None, option_map, Result, Ok, Err, not, refl, sym, ap, subst, ◌∙◌, arith}
-use Rattle.std.specs.Option.{is_none}
+use Rattle.std.proofs.Common.{◌≡◌, ℕ, zero, suc, ◌-◌, ◌<◌, ◌≤◌, nat_le, ◌==◌, Bool, true, false, ◌&&◌, ◌||◌, cond, List, [], ◌∷◌, ◌++◌, length, take, drop, slice_get, Option, Some, None, option_map, Result, Ok, Err, refl, sym, ap, subst, ◌∙◌, arith}
 use Rattle.std.proofs.lemmas.Bool.Decides.{nat_tests}
 use Rattle.std.proofs.lemmas.List.{map-append}
 use Rattle.span_ids.proofs.SameTraces.{same_trace-is, same_trace-sym}
@@ -16,7 +15,7 @@ use Rattle.decision_cache.specs.Lists.{CacheLists, TraceList, is_held, is_held_i
 use Rattle.decision_cache.specs.declared.traces.Remembered.{Remembered}
 use Rattle.decision_cache.specs.declared.traces.Remembered.TheVariants.{Kept, Off, Lost}
 use Rattle.shard_core.specs.Forgotten.{traces, AreForgotten}
-use Rattle.shard_core.specs.Holding.{Puts, PutsDecided, leaves_forgotten}
+use Rattle.shard_core.specs.Holding.{Puts, PutsDecided}
 
 no : {P : Type 0} → true ≡ false → P
 no e = absurd (cc e)
@@ -212,10 +211,6 @@ traces-drop : (es : List Episode) → traces (drop 1 es) ≡ drop 1 (traces es)
 traces-drop [] = refl
 traces-drop (e ∷ es) = refl
 
-forgotten-drop : (ts : List TraceId) (c : CacheLists) → AreForgotten ts c → AreForgotten (drop 1 ts) c
-forgotten-drop [] c w = tt
-forgotten-drop (t ∷ ts) c w = w.2
-
 held-drop : (x : TraceId) (ts : List TraceId) → is_held x ts ≡ false → is_held x (drop 1 ts) ≡ false
 held-drop x [] h = refl
 held-drop x (t ∷ ts) h = (either-no (same_trace x t) (is_held x ts) h).1
@@ -274,19 +269,6 @@ open_keeps clock maximum old new c d a t left r l e q n h k =
       subst Q (sym (traces-open full (opening_episode t a clock maximum) old.episodes))
           (forgotten-push t (cond full (drop 1 (traces old.episodes)) (traces old.episodes)) d (held-cond full t (traces old.episodes) out) w.1 w.0),
     )
-
--- the trace of the episode that leaves is in no cache
-pub leaves_out : (b : Buffer) (c : CacheLists) → AreForgotten (traces b.episodes) c → leaves_forgotten (leaves b) c ≡ true
-leaves_out b c w = go (length b.episodes == b.num_traces) b.episodes w
-  where
-    or-yes : (x : Bool) → (x || true) ≡ true
-    or-yes true = refl
-    or-yes false = refl
-
-    go : (full : Bool) (es : List Episode) → AreForgotten (traces es) c → leaves_forgotten (cond full (option_map evicted_as (slice_get es 0)) None) c ≡ true
-    go false es w = refl
-    go true [] w = refl
-    go true (e ∷ es) w = ap (λ b. is_none e.verdict || not b) w.1 ∙ or-yes (is_none e.verdict)
 
 pub new_keeps : (b : Buffer) (c : CacheLists) (num_traces : ℕ) → b ≡ (let z : Buffer = record { episodes = []; num_traces = num_traces } in z) → 0 < num_traces → IsKept 0 b c
 new_keeps b c num_traces e l = let P = λ (z : Buffer). IsKept 0 z c in subst P (sym e) (l, refl, tt)

@@ -1,4 +1,4 @@
-//! What a shard's answers do: spans go on, and spans are counted. It stands once for each caller of a shard.
+//! What a shard's answers do: spans go on, and spans are counted. It stands once for all callers of a shard.
 ghost use Rattle.std.specs.Prelude.{◌≡◌, ◌≢◌, ℕ, List, [], ◌∷◌, MatchBool, if◌then◌else◌};
 ghost use Rattle.span_ids.specs.declared.outcome.Reason.{Reason as ReasonOf};
 ghost use Rattle.otlp_types.specs.declared.arrival.Arrival.{Arrival as ArrivalOf};

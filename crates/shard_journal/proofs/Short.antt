@@ -83,25 +83,6 @@ after_item_short s e before (End sender) noted = refl
 
 -- ---- an item decides nothing by itself
 
-finding_keeps : (s : Settings) (t : TraceId) (lost : Bool) (at now : ℕ) (noted : Notes) (f : Finding) → (after_finding s t lost at now noted f).decisions ≡ noted.decisions
-finding_keeps s t lost at now noted (joins o) = refl
-finding_keeps s t lost at now noted (meets o v) = refl
-finding_keeps s t lost at now noted opens = refl
-
-span_keeps : (s : Settings) (ids : Option Ids) (e : Entry) (before : Journal) (noted : Notes) → (after_span s ids e before noted).decisions ≡ noted.decisions
-span_keeps s None e before noted = refl
-span_keeps s (Some ids) e before noted = go e.refused
-  where
-    go : (b : Bool) → (cond b noted (after_finding s ids.trace e.lost (length before) (clock (e ∷ before)) noted (finding s noted ids.trace))).decisions ≡ noted.decisions
-    go true = refl
-    go false = finding_keeps s ids.trace e.lost (length before) (clock (e ∷ before)) noted (finding s noted ids.trace)
-
--- the decisions stay
-pub item_keeps : (s : Settings) (e : Entry) (before : Journal) (item : Item) (noted : Notes) → (after_item s e before item noted).decisions ≡ noted.decisions
-item_keeps s e before (Span a) noted = span_keeps s a.rec.span.ids e before noted
-item_keeps s e before (Tick m) noted = refl
-item_keeps s e before (End sender) noted = refl
-
 -- ---- effects and marks
 
 leaving_short : (before : Journal) (noted : Notes) (o : Option Opening) → effect_of_leaving before (short_notes noted) o ≡ effect_of_leaving before noted o

@@ -18,10 +18,10 @@ use Rattle.journal_theory.specs.Journal.{Entry, Settings, Journal, has_ended, ha
 use Rattle.journal_theory.specs.Fate.{Effect, effect, effect_dealt, under}
 use Rattle.shard_core.specs.Held.{Held, settings, StandsFor, is_finished}
 use Rattle.journal_theory.specs.Standing.{Standing, ends}
-use Rattle.journal_theory.specs.Marked.{MarksApply, marks_apply}
+use Rattle.journal_theory.specs.Marked.{MarksApply}
 use Rattle.shard_worker.specs.Asking.{AskedBy}
 use Rattle.shard_worker.specs.Work.{shipments, items, HaveIds, with_ids, journal_of, counted_in, ShardWorks, TicksWait}
-use Rattle.shard_worker.specs.Turns.{counted_dealt, HasDone, TakesItem, HasTaken}
+use Rattle.shard_worker.specs.Turns.{counted_dealt, HasDone, HasTaken}
 
 filter-append : {X : Type 0} (p : X → Bool) (xs ys : List X) → filter p (xs ++ ys) ≡ filter p xs ++ filter p ys
 filter-append p [] ys = refl
@@ -70,17 +70,6 @@ kept_skipping asks first n place item s old new before shard shipped tally limit
       merged_more n place item old new popped (unmarked item) refl takes kept.0,
       subst (λ J. MarksApply s J) (sym same) kept.1,
       subst (λ J. HasDone asks first before shard shipped tally limiter J) (sym same) kept.2,
-    )
-
--- an item was popped and taken
-pub kept_taking : {L : Type 0} (asks : L → ℕ → ℕ → ℕ → Bool → L → Type 0) (first : L) (n place : ℕ) (item : Item) (s : Settings) (old new : List (EndState Item)) (before : TallyState) (shard : Held) (shipped : List Shipment) (tally : TallyState) (limiter : L) (popped : List (ℕ × Entry))
-    → settings shard ≡ s → has_ids item ≡ true → TakesAt n place item old new → IsMergeOf old (items popped) → MarksApply s (journal_of popped)
-    → (t : TakesItem asks first before shard shipped tally limiter item (journal_of popped)) → Kept asks first s new before shard shipped tally limiter (popped ++ (place, t.taken) ∷ [])
-kept_taking asks first n place item s old new before shard shipped tally limiter popped is some takes merge marks t =
-    let same = journal_one popped place t.taken true (ap has_ids t.item_is ∙ some) in (
-      merged_more n place item old new popped t.taken t.item_is takes merge,
-      subst (λ J. MarksApply s J) (sym same) (subst (λ z. marks_apply z t.taken (journal_of popped) ≡ true) is t.marked, marks),
-      subst (λ J. HasDone asks first before shard shipped tally limiter J) (sym same) t.done,
     )
 
 -- nothing was popped

@@ -61,9 +61,6 @@ uniting_init whole left first h is =
       parts = λ log mine theirs. All-cons (StandsIn log) first [] mine (All-nil (StandsIn log));
     }
 
-pub uniting_same : (whole left left' : List Stand) (first other : Stand) → Uniting whole left first → left ≡ left' ++ other ∷ [] → other.0 ≡ first.0
-uniting_same whole left left' first other u is = (all_last (IsOfTheirs whole u.one) left' other (subst (All (IsOfTheirs whole u.one)) is u.same)).0 ∙ sym u.of.0
-
 pub uniting_step : (whole left left' : List Stand) (first other first' : Stand) → Uniting whole left first → left ≡ left' ++ other ∷ [] → first'.0 ≡ first.0 → first'.1 ≡ with_parts first.1 other.1 → Uniting whole left' first'
 uniting_step whole left left' first other first' u is same_table view =
     let rest = subst (All (IsOfTheirs whole u.one)) is u.same in

@@ -221,11 +221,6 @@ begins = record {
   first zero u e = refl
   first (suc j) u e = absurd (some-ne-none u (sym e))
 
-length_set : (l : List View) (i : ℕ) (a : View) → length (set l i a) ≡ length l
-length_set [] i a = refl
-length_set (x ∷ xs) zero a = refl
-length_set (x ∷ xs) (suc i) a = ap suc (length_set xs i a)
-
 not_live : (v : View) → v.live ≡ false → v.live ≢ true
 not_live v e t = true≢false (sym t ∙ e)
 

@@ -1,8 +1,8 @@
 -- What the pushes of a text leave.
 -- For the clauses of `push_zeros` and `push_number`.
-use Rattle.std.proofs.Common.{◌≡◌, ℕ, ◌+◌, ◌<◌, ◌≤◌, List, [], ◌∷◌, ◌++◌, length, replicate, ap, ◌∙◌, arith, append_assoc, length-append}
+use Rattle.std.proofs.Common.{◌≡◌, ℕ, ◌+◌, ◌<◌, ◌≤◌, List, [], ◌∷◌, ◌++◌, length, replicate, ap, ◌∙◌, arith, append_assoc}
 use Rattle.std.proofs.lemmas.Fmt.{length-decimal-le}
-use Rattle.std.proofs.lemmas.List.{length-replicate, replicate-append-replicate}
+use Rattle.std.proofs.lemmas.List.{replicate-append-replicate}
 use Rattle.std.specs.Fmt.{decimal}
 
 pub short_decimal : (n : ℕ) → n < 1000 → length (decimal n) ≤ 3
@@ -10,6 +10,3 @@ short_decimal n h = length-decimal-le 3 n (omega arith) (omega arith) (omega ari
 
 pub one_more : (old : List ℕ) (i : ℕ) → (old ++ replicate i 48) ++ 48 ∷ [] ≡ old ++ replicate (i + 1) 48
 one_more old i = append_assoc old (replicate i 48) (48 ∷ []) ∙ ap (λ l. old ++ l) (replicate-append-replicate i 1 48)
-
-pub zeros_len : (old : List ℕ) (i : ℕ) → length (old ++ replicate i 48) ≡ length old + i
-zeros_len old i = length-append old (replicate i 48) ∙ ap (λ n. length old + n) (length-replicate {A = ℕ} i 48)

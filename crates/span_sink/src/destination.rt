@@ -14,8 +14,9 @@ pub trait Destination {
     /// The bytes that it took, how many writes have failed, and whether it is down.
     ghost state: { Self → LineSinkState };
 
-    /// Hands a line over, with the line feed that it brings. `Failed`: it went down in this call, and a part of the line may
-    /// have been taken. `Down`: it was down, and nothing was taken. `Refused`: it refused the line, and may take the next one.
+    /// Hands a line over, with the line feed that it brings. `Failed`: it went down in this call, and a part of the line
+    /// may have been taken. `Down`: it was down, and nothing was taken. `Refused`: it refused the line, and may take the
+    /// next one.
     fn hand(&mut self, line: &[u8]) -> Result<(), SinkFault>
         ensures hands { HandsTo manner (state self.old) line.now result (state self.new) };
 

@@ -7,8 +7,7 @@ use Rattle.json.specs.Written.{PlainBetween}
 use Rattle.json.proofs.Printed.Plain.{escape_on_plain}
 use Rattle.std.proofs.lemmas.Bool.{and_parts, cases_lt, eqb-true}
 use Rattle.std.proofs.lemmas.List.{take_all}
-use Rattle.std.proofs.lemmas.List.Concat.{length-flat_map, flat_map-append}
-use Rattle.std.proofs.lemmas.List.Sums.{sum_by_more}
+use Rattle.std.proofs.lemmas.List.Concat.{flat_map-append}
 use Rattle.json.specs.Token.{key, string}
 use Rattle.json.specs.Print.{escape, escape_byte, quoted, token_text}
 use Rattle.hex.specs.Hex.{encode_with, encode_lower, lower_digits}
@@ -17,13 +16,6 @@ use Rattle.span_size.specs.Counting.{capped}
 -- the bytes of a text with its escapes
 abbrev pub escaped : List ℕ → ℕ
 escaped s = length (escape s)
-
--- one byte more
-pub escaped-more : (s : List ℕ) (i : ℕ) → i < length s → escaped (take (i + 1) s) ≡ escaped (take i s) + length (escape_byte (get_or s i 0))
-escaped-more s i h =
-    length-flat_map escape_byte (take (i + 1) s)
-    ∙ sum_by_more (λ x. length (escape_byte x)) s i 0 h
-    ∙ ap (λ n. n + length (escape_byte (get_or s i 0))) (sym (length-flat_map escape_byte (take i s)))
 
 escaped-append : (xs ys : List ℕ) → escaped (xs ++ ys) ≡ escaped xs + escaped ys
 escaped-append xs ys = ap length (flat_map-append escape_byte xs ys) ∙ length-append (escape xs) (escape ys)

@@ -37,14 +37,8 @@ module _ (c : CoreConfig) (w : World) (shard : ℕ) (sh : CoreShard) (g : slice_
   take_is refused lost [] = refl
   take_is refused lost (a ∷ rest) = if_map (λ (e : Entry). after_taking c w shard sh e rest) (record { item = Span a; refused = refused; lost = lost; answers = [] }) (not (has_due (settings c w) sh) && marks_apply_to_ids (settings c w) sh.journal refused lost a.rec.span.ids)
 
-  pub no_take : (refused lost : Bool) → entry_of_first (settings c w) sh refused lost sh.queue ≡ None → step c w (take shard refused lost) ≡ None
-  no_take refused lost e = rw g (take_is refused lost sh.queue ∙ ap (option_map (λ (e : Entry). after_taking c w shard sh e (drop 1 sh.queue))) e)
-
   pub takes : (refused lost : Bool) (e : Entry) → entry_of_first (settings c w) sh refused lost sh.queue ≡ Some e → step c w (take shard refused lost) ≡ Some (after_taking c w shard sh e (drop 1 sh.queue))
   takes refused lost e f = rw g (take_is refused lost sh.queue ∙ ap (option_map (λ (e : Entry). after_taking c w shard sh e (drop 1 sh.queue))) f)
-
-  pub can_take : (refused lost : Bool) → is_some (entry_of_first (settings c w) sh refused lost sh.queue) ≡ true → is_some (step c w (take shard refused lost)) ≡ true
-  can_take refused lost e = rw g (ap is_some (take_is refused lost sh.queue) ∙ mapped_some (λ (e : Entry). after_taking c w shard sh e (drop 1 sh.queue)) (entry_of_first (settings c w) sh refused lost sh.queue) ∙ e)
 
   pub no_tick : (moment : ℕ) → may_take (settings c w) sh (ticker w) ≡ false → step c w (tick shard moment) ≡ None
   no_tick moment e = rw (g, e) refl
@@ -54,13 +48,6 @@ module _ (c : CoreConfig) (w : World) (shard : ℕ) (sh : CoreShard) (g : slice_
 
   pub no_end : (sender : ℕ) → may_take (settings c w) sh sender ≡ false → step c w (end shard sender) ≡ None
   no_end sender e = rw (g, e) refl
-
-  pub not_done : (sender : ℕ) → sender_is_done w shard sh sender (slice_get w.lanes sender) ≡ false → step c w (end shard sender) ≡ None
-  not_done sender e = rw (g, e) (pick (may_take (settings c w) sh sender))
-    where
-      pick : (b : Bool) → cond (b && false) (Some (after_taking c w shard sh (record { item = End sender; refused = false; lost = false; answers = [] }) sh.queue)) None ≡ None
-      pick true = refl
-      pick false = refl
 
   pub ends : (sender : ℕ) → may_take (settings c w) sh sender ≡ true → sender_is_done w shard sh sender (slice_get w.lanes sender) ≡ true
       → step c w (end shard sender) ≡ Some (after_taking c w shard sh (record { item = End sender; refused = false; lost = false; answers = [] }) sh.queue)
@@ -134,10 +121,6 @@ module _ (before : Core) (shard : ℕ) (sh : CoreShard) (g : slice_get before.wo
   take_steps refused lost e f = keeps (take shard refused lost) e
       (takes (config_of before.config) before.world shard sh g refused lost e f
       ∙ ap (λ (b : Bool). Some (after_taking (config_of before.config) before.world shard sh e (cond b (drop 1 sh.queue) sh.queue))) (sym (first_is_span (settings (config_of before.config) before.world) sh refused lost sh.queue e f)))
-
-  pub tick_steps : (moment : ℕ) → may_take (settings (config_of before.config) before.world) sh (ticker before.world) ≡ true
-      → (r : Result (Unit {0}) StepRefusal) (after : Core) → KeepsItem before shard (Tick moment) r after → StepsTo before (tick shard moment) r after
-  tick_steps moment e = keeps (tick shard moment) (record { item = Tick moment; refused = false; lost = false; answers = [] }) (ticks (config_of before.config) before.world shard sh g moment e)
 
   pub end_steps : (sender : ℕ) → may_take (settings (config_of before.config) before.world) sh sender ≡ true → sender_is_done before.world shard sh sender (slice_get before.world.lanes sender) ≡ true
       → (r : Result (Unit {0}) StepRefusal) (after : Core) → KeepsItem before shard (End sender) r after → StepsTo before (end shard sender) r after

@@ -1,7 +1,6 @@
 -- What was found looking back, where one shard of the list changes.
 -- For the contracts of `decide`, `keep_entry`, `new`, `route` and `ship`.
-use Rattle.std.proofs.Common.{◌≡◌, ℕ, zero, suc, List, [], ◌∷◌, length, map, replicate, slice_get, slice_set, Some, refl, ap, sym, ◌∙◌}
-use Rattle.std.proofs.lemmas.List.{length-map}
+use Rattle.std.proofs.Common.{◌≡◌, ℕ, zero, suc, List, [], ◌∷◌, map, replicate, slice_get, slice_set, Some, refl, ap, sym, ◌∙◌}
 use Rattle.journal_theory.specs.Journal.{Settings}
 use Rattle.shard_journal.specs.Look.{Look, look_of}
 use Rattle.world_theory.specs.World.{CoreShard, new_shard}
@@ -15,11 +14,6 @@ pub new_looks : (s : Settings) (n : ℕ) → LooksBack s (replicate n new_shard)
 new_looks s zero = refl
 new_looks s (suc n) = ap (λ z. look_of s [] ∷ z) (new_looks s n)
 
-pub look_at : (s : Settings) (shards : List CoreShard) (i : ℕ) (sh : CoreShard) → slice_get shards i ≡ Some sh → slice_get (looks_over s shards) i ≡ Some (look_of s sh.journal)
-look_at s [] i sh e = absurd (cc e)
-look_at s (x ∷ shards) zero sh e = let q : x ≡ sh = cc e in ap (λ (z : CoreShard). Some (look_of s z.journal)) q
-look_at s (x ∷ shards) (suc i) sh e = look_at s shards i sh e
-
 pub looks_set : (s : Settings) (shards : List CoreShard) (i : ℕ) (new : CoreShard) → looks_over s (slice_set shards i new) ≡ slice_set (looks_over s shards) i (look_of s new.journal)
 looks_set s [] i new = refl
 looks_set s (x ∷ shards) zero new = refl
@@ -29,12 +23,6 @@ pub looks_kept : (s : Settings) (shards : List CoreShard) (i : ℕ) (sh new : Co
 looks_kept s [] i sh new e f = refl
 looks_kept s (x ∷ shards) zero sh new e f = let q : x ≡ sh = cc e in ap (λ z. look_of s z ∷ looks_over s shards) (f ∙ sym (ap (λ (z : CoreShard). z.journal) q))
 looks_kept s (x ∷ shards) (suc i) sh new e f = ap (λ z. look_of s x.journal ∷ z) (looks_kept s shards i sh new e f)
-
-pub looks_length : (s : Settings) (shards : List CoreShard) (looks : List Look) → LooksBack s shards looks → length looks ≡ length shards
-looks_length s shards looks h = ap length h ∙ length-map shards (λ (sh : CoreShard). look_of s sh.journal)
-
-pub look_is : (s : Settings) (shards : List CoreShard) (looks : List Look) (i : ℕ) (sh : CoreShard) (look : Look) → LooksBack s shards looks → slice_get shards i ≡ Some sh → slice_get looks i ≡ Some look → look ≡ look_of s sh.journal
-look_is s shards looks i sh look h g k = let q = sym k ∙ ap (λ (ls : List Look). slice_get ls i) h ∙ look_at s shards i sh g in cc q
 
 pub looks_put : (s : Settings) (shards : List CoreShard) (looks : List Look) (i : ℕ) (new : CoreShard) (look : Look) → LooksBack s shards looks → look ≡ look_of s new.journal → LooksBack s (slice_set shards i new) (slice_set looks i look)
 looks_put s shards looks i new look h e = ap (λ (ls : List Look). slice_set ls i look) h ∙ ap (λ (l : Look). slice_set (looks_over s shards) i l) e ∙ sym (looks_set s shards i new)

@@ -175,10 +175,6 @@ pub next_there : (s : Settings) → HasRoom s.num_traces → (J : Journal) (k : 
 next_there s room [] k answers o e g = absurd (no_due s k o e)
 next_there s room (x ∷ before) k answers o e g = there s room x before k answers o e g
 
-pub notes_dealt_same : (s : Settings) → HasRoom s.num_traces → (J : Journal) (k : ℕ) (answers : List Bool) (o : Opening) → slice_get (due_now s J) k ≡ Some o → IsAnsweredUpTo s J k → notes_dealt s (answered J answers) k ≡ notes_dealt s J k
-notes_dealt_same s room [] k answers o e g = absurd (no_due s k o e)
-notes_dealt_same s room (x ∷ before) k answers o e g = dealt_same s room x before k answers o e g
-
 pub content_same : (s : Settings) → HasRoom s.num_traces → (J : Journal) (k : ℕ) (answers : List Bool) (o : Opening) → slice_get (due_now s J) k ≡ Some o → IsAnsweredUpTo s J k →
     content s (answered J answers) (notes_dealt s (answered J answers) k) ≡ content s J (notes_dealt s J k)
 content_same s room [] k answers o e g = absurd (no_due s k o e)

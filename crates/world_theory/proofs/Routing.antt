@@ -2,7 +2,7 @@
 -- For proofs of `span_world`.
 use Rattle.std.proofs.Common.{◌≡◌, ℕ, zero, suc, ◌<◌, true, false, is_some, List, [], ◌∷◌, ◌++◌, length, get_or, slice_get, slice_set, Option, Some, None, refl, ap, sym, subst, ◌∙◌, arith}
 use Rattle.std.specs.List.{position, remove}
-use Rattle.std.specs.Prelude.{Result, Ok, Err, OnOk, OnErr, is_err}
+use Rattle.std.specs.Prelude.{Result, Ok, Err, OnOk, is_err}
 use Rattle.otlp_types.specs.declared.arrival.Arrival.{Arrival}
 use Rattle.span_ids.specs.declared.outcome.Reason.TheVariants.{QueueFull}
 use Rattle.world_theory.specs.World.{CoreConfig, CoreLane, CoreShard, World, goes_to}
@@ -29,15 +29,6 @@ some_read (x ∷ xs) (suc i) l = some_read xs i (omega arith)
 pub on_ok : {T E : Type 0} {P : Type 0} (r : Result T E) → is_err r ≡ false → OnOk r P → P
 on_ok (Ok x) e p = p
 on_ok (Err x) e p = absurd (cc e)
-
--- what holds anyway holds of a refusal
-pub each_err : {A E P : Type 0} (r : Result A E) → P → OnErr r P
-each_err (Ok x) p = tt
-each_err (Err e) p = p
-
-pub on_err : {T E : Type 0} {P : Type 0} (r : Result T E) → is_err r ≡ true → OnErr r P → P
-on_err (Ok x) e p = absurd (cc e)
-on_err (Err x) e p = p
 
 pub reads_same : {X : Type 0} (xs : List X) (i : ℕ) (x y : X) → slice_get xs i ≡ Some x → slice_get xs i ≡ Some y → x ≡ y
 reads_same xs i x y e f = let both : Some x ≡ Some y = sym e ∙ f in cc

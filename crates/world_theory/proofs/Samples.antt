@@ -7,6 +7,7 @@ use Rattle.policy_tree.specs.Tree.{Policies, no_more, one_more, leaf}
 use Rattle.policy_tree.specs.declared.policy.Leaf.TheVariants.{AlwaysSample, StatusCode}
 use Rattle.journal_theory.specs.Journal.{have_ended}
 use Rattle.journal_theory.specs.Fate.{under}
+use Rattle.journal_theory.proofs.Samples.{plain_settings}
 use Rattle.otlp_types.specs.declared.span.Ids.{Ids}
 use Rattle.otlp_types.specs.declared.arrival.Arrival.{Arrival}
 use Rattle.otlp_types.specs.declared.arrival.Record.{Record}
@@ -28,7 +29,7 @@ errors = one_more (leaf (StatusCode (pos 2 ∷ []))) no_more
 
 -- a wait of 10 milliseconds, batches of one span
 abbrev pub configured : Policies → (num_traces : Option ℕ) → (sampled non_sampled : ℕ) → CoreConfig
-configured policies num_traces sampled non_sampled = record { shard = record { policies = policies; decision_wait = 10; root_wait = 0; maximum_trace_size = 0; num_traces = num_traces; sampled_cache_size = sampled; non_sampled_cache_size = non_sampled; senders = 0 }; batch_size = 1; manner = takes_all }
+configured policies num_traces sampled non_sampled = record { shard = record (plain_settings policies) { num_traces = num_traces; sampled_cache_size = sampled; non_sampled_cache_size = non_sampled; senders = 0 }; batch_size = 1; manner = takes_all }
 
 -- with this greatest size of a trace
 abbrev pub of_size : (maximum : ℕ) → CoreConfig → CoreConfig

@@ -6,5 +6,5 @@ use Rattle.admin_http.proofs.texts.answer.Goals as goal
 pub returns : goal.returns
 returns c =
     subst (λ l. IfOk c.page_text.result (λ text. string_bytes text ≡ l))
-    (λ i. page_text (c.page_of-shown.ensures i) (c.allow_line.ensures i) c.args.asked.is_head)
+    (λ i. page_text (c.page_of-shown.ensures i) (c.own_fields.ensures i) c.args.asked.is_head)
     c.page_text.ensures

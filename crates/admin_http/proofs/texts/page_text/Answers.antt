@@ -6,5 +6,5 @@ use Rattle.admin_http.proofs.texts.page_text.Goals as goal
 pub returns : goal.returns
 returns c =
     let shown = c.args.shown.now in
-    subst (λ (sent : List ℕ). IfOk c.joined.result (λ text. string_bytes text ≡ joined shown.status shown.reason.now shown.media.now (length shown.body.now) c.args.allow.now sent))
+    subst (λ (sent : List ℕ). IfOk c.joined.result (λ text. string_bytes text ≡ joined shown.status shown.reason.now shown.media.now (length shown.body.now) c.args.fields.now sent))
     c.sent_of-sent.ensures c.joined.ensures

@@ -16,3 +16,6 @@ returns-in-GzipIsOff c = λ encoding. sym (ap (refusal_row encoding) c.in-GzipIs
 
 pub returns-in-UnsupportedCoding : goal.returns-in-UnsupportedCoding
 returns-in-UnsupportedCoding c = λ encoding. sym (ap (refusal_row encoding) c.in-UnsupportedCoding.is)
+
+pub returns-in-NeitherCoding : goal.returns-in-NeitherCoding
+returns-in-NeitherCoding c = λ encoding. sym (ap (refusal_row encoding) c.in-NeitherCoding.is)

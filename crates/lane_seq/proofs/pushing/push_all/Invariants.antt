@@ -1,4 +1,4 @@
-use Rattle.std.proofs.Common.{◌+◌, ◌≤◌, length}
+use Rattle.std.proofs.Common.{◌≡◌, ◌+◌, ◌≤◌, true, length}
 use Rattle.std.specs.Prelude.{filter}
 use Rattle.lane_seq.specs.Numbers.{is_invalid}
 use Rattle.lane_seq.specs.Pushes.{PushesAll}
@@ -8,4 +8,5 @@ abbrev pub invariant-loop-arrival : goal.invariant-loop-arrival
 invariant-loop-arrival g l = record {
   pushed : PushesAll g.P.Port.takes g.P.Port.refuses l.yielded l.fn.ports l.full l.ports;
   few : length (filter is_invalid l.yielded) + l.full ≤ length l.yielded;
+  waiting : g.P.Port.waits ≡ true → l.full ≡ 0;
 }

@@ -34,7 +34,7 @@ run_team-requires-send-First g c κs within =
     param_send _ _ (arg_send _ no _ (lane_job_send _ (param 0 g.row.Server) (param 6 g.row.QueueRoom) (param 3 g.row.Observer) (param 4 g.row.Mark) (param 5 g.row.Time) (param 8 g.row.Runtime) g.QueueRoom.Room acceptor c.type_bounds.sync-Observer c.type_bounds.sync-Mark c.type_bounds.sync-Time c.type_bounds.sync-Runtime))
 
 pub run_team-requires-send-Second : goal.run_team-requires-send-Second
-run_team-requires-send-Second g c κs within = param_send _ _ (arg_send _ no _ (ticker_job_send _ _ _ _ _ c.type_bounds.send-TickSource c.type_bounds.sync-Runtime))
+run_team-requires-send-Second g c κs within = param_send _ _ (arg_send _ no _ (ticker_job_send _ _ (param 6 g.row.QueueRoom) _ g.QueueRoom.Room c.type_bounds.send-TickSource c.type_bounds.sync-Runtime))
 
 pub run_team-requires-send-Third : goal.run_team-requires-send-Third
 run_team-requires-send-Third g c κs within = param_send _ _ (arg_send _ no _ (shard_job_send _ (param 6 g.row.QueueRoom) (param 7 g.row.ExportRoom) (param 3 g.row.Observer) (param 8 g.row.Runtime) g.QueueRoom.Room g.ExportRoom.Room c.type_bounds.sync-Observer c.type_bounds.sync-Runtime))

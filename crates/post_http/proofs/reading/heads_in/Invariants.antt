@@ -3,8 +3,8 @@ use Rattle.post_http.specs.Answers.{SeesBehind}
 use Rattle.post_http.proofs.reading.heads_in.Given as goal
 
 -- the rest of the bytes stands behind interim heads
-abbrev pub invariant-loop : goal.invariant-loop
-invariant-loop l = record {
+abbrev pub invariant-loop-heads : goal.invariant-loop-heads
+invariant-loop-heads l = record {
   fits : l.at ≤ length l.bytes;
-  behind : SeesBehind l.bytes l.client (drop l.at l.bytes);
+  behind : SeesBehind l.heads l.bytes l.client (drop l.at l.bytes);
 }

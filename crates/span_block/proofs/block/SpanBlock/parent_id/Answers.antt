@@ -1,0 +1,10 @@
+use Rattle.std.proofs.Common.{◌∙◌, ap}
+use Rattle.otlp_protobuf_encode.specs.Writing.{span_fields}
+use Rattle.span_ids.specs.Id.{id_from}
+use Rattle.span_block.proofs.Found.{parent_found}
+use Rattle.span_block.proofs.block.SpanBlock.parent_id.Goals as goal
+
+pub returns : goal.returns
+returns c =
+    let s = c.args.self.now in
+    c.from_bytes.ensures ∙ ap (id_from 8) (c.bytes_at.ensures.found (span_fields s) c.message.ensures.fields) ∙ parent_found s c.message.ensures.fits.ids
