@@ -2,6 +2,7 @@
 
 import base64
 import hashlib
+import json
 import os
 import re
 import socket
@@ -81,12 +82,44 @@ def the_page(start):
     want("what keeps it", [fields[it] for it in ("cache-control", "x-content-type-options", "referrer-policy")], ["no-store", "nosniff", "no-referrer"])
     own = f"default-src 'none'; script-src 'sha256-{hashes[0]}'; style-src 'sha256-{hashes[1]}'; connect-src 'self'; img-src data:; "
     want("its policy", fields["content-security-policy"], own + "base-uri 'none'; form-action 'none'; frame-ancestors 'none'")
-    want("what it asks", re.findall('data-feeds="(.*?)"', page), ["metrics"])
-    want("what it takes from elsewhere", re.findall(r"(?:src|href|action)=[\"'](?!#|data:|metrics)", page), [])
+    want("what it asks", re.findall('data-feeds="(.*?)"', page), ["metrics status"])
+    want("what it takes from elsewhere", re.findall(r"(?:src|href|action)=[\"'](?!#|data:|metrics|status.json)", page), [])
     for port in (metrics, collector.port):
         want(f"the page at {port}", asked(port, get("/"))[::2], (404, '{"message":"not found"}'))
     want("the answer to /close", asked(admin, post(b"", "/close"))[0], 200)
     want("the report", collector.end()[1], [0] * 9)
+
+
+REASONS = ["invalid_id", "queue_full", "no_memory", "evicted", "not_sampled", "late_not_sampled", "exporter_down"]
+
+
+def counts_as_json(start):
+    """/status.json tells the counts of now, and a row of them for each ten seconds since the start; no other address tells it, and HEAD has no body."""
+    admin, metrics, began = free_port(), free_port(), time.time()
+    collector = start(f'admin = "127.0.0.1:{admin}"\nmetrics = "127.0.0.1:{metrics}"\ndecision_wait_ms = 50\ntick_ms = 50\n' + ALL)
+    told = lambda: json.loads(asked(admin, get("/status.json"))[2])
+    spans = lambda status: [status["spans"]["received"], status["spans"]["handed"], *(status["spans"]["dropped"][it] for it in REASONS), status["spans"]["waiting"]]
+    status, fields, body = asked(admin, get("/status.json"))
+    want("the answer", (status, fields["content-type"], int(fields["content-length"])), (200, "application/json", len(body)))
+    want("its keys", [list(json.loads(body)), list(json.loads(body)["spans"]["dropped"])], [["now_ms", "spans", "history"], REASONS])
+    want("the counts at the start", spans(json.loads(body)), [0] * 10)
+    want("HEAD of it", asked(admin, get("/status.json").replace(b"GET", b"HEAD"))[::2], (200, ""))
+    for port in (metrics, collector.port):
+        want(f"the status at {port}", asked(port, get("/status.json"))[::2], (404, '{"message":"not found"}'))
+    comes_to("the first row", lambda: len(told()["history"]["rows"]), 1)
+    want("the answer to spans", collector.ask(post(body_of([ERROR_SPAN, {"traceId": "x", "spanId": "y"}])))[0], 200)
+    comes_to("the counts", lambda: spans(told()), [2, 1, 1, 0, 0, 0, 0, 0, 0, 0])
+    deadline = time.time() + 15
+    while len(told()["history"]["rows"]) < 2 and time.time() < deadline:
+        time.sleep(0.2)
+    status = told()
+    want("the columns", [status["history"]["every_ms"], status["history"]["columns"]], [10000, ["at_ms", "received", "handed", *REASONS]])
+    (first, *zeros), (second, *counts) = status["history"]["rows"]
+    want("the rows", [zeros, counts], [[0] * 9, [2, 1, 1, 0, 0, 0, 0, 0, 0]])
+    if not 1000 * began <= first <= second - 10000 <= status["now_ms"] - 10000 <= 1000 * time.time() - 10000 or second - first > 12000:
+        raise Failure(f"the moments of the rows: {status}")
+    want("the answer to /close", asked(admin, post(b"", "/close"))[0], 200)
+    want("the report", collector.end()[1], [2, 1, 1, 0, 0, 0, 0, 0, 0])
 
 
 def pages_of_other_sites(start):
@@ -488,6 +521,7 @@ CHECKS = [
     in_charge,
     in_charge_by_a_socket,
     the_page,
+    counts_as_json,
     pages_of_other_sites,
     told_by_shards,
     numbers_alone,

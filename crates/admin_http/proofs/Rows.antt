@@ -12,23 +12,23 @@ use Rattle.http_text.specs.Head.{verdict_by}
 use Rattle.admin_http.specs.declared.asked.Method.TheVariants.{Get, Post}
 use Rattle.admin_http.specs.declared.asked.Access.TheVariants.{Full, Numbers}
 use Rattle.admin_http.specs.declared.asked.Route.{Route}
-use Rattle.admin_http.specs.declared.asked.Route.TheVariants.{Close, Reopen, Metrics, Health, Config, Page, Forbidden, NotFound, WrongMethod, Bad, TooLarge}
+use Rattle.admin_http.specs.declared.asked.Route.TheVariants.{Close, Reopen, Metrics, Health, Config, Status, Page, Forbidden, NotFound, WrongMethod, Bad, TooLarge}
 use Rattle.admin_http.specs.declared.ends.TheConstants.{PIECE_LIMIT, QUIET_LIMIT, READ_LIMIT}
 use Rattle.admin_http.specs.declared.asked.AdminRequest.{AdminRequest}
 use Rattle.admin_http.specs.Asked.{asked, asked_by, numbers_routed, refused_as, routed, nothing}
-use Rattle.admin_http.specs.Serving.{closes, is_harmless, reopens}
+use Rattle.admin_http.specs.Serving.{closes, is_counted, is_harmless, reopens}
 use Rattle.admin_http.specs.Texts.{AdminState, answer_of, state}
 
--- the six targets, each by its method
-six_targets : map (routed (codes "POST")) (codes "/close" ∷ codes "/reopen" ∷ [])
-    ++ map (routed (codes "GET")) (codes "/metrics" ∷ codes "/healthz" ∷ codes "/config" ∷ codes "/" ∷ [])
-    ≡ Close ∷ Reopen ∷ Metrics ∷ Health ∷ Config ∷ Page ∷ []
-six_targets = refl
+-- the seven targets, each by its method
+seven_targets : map (routed (codes "POST")) (codes "/close" ∷ codes "/reopen" ∷ [])
+    ++ map (routed (codes "GET")) (codes "/metrics" ∷ codes "/healthz" ∷ codes "/config" ∷ codes "/status.json" ∷ codes "/" ∷ [])
+    ≡ Close ∷ Reopen ∷ Metrics ∷ Health ∷ Config ∷ Status ∷ Page ∷ []
+seven_targets = refl
 
 -- where numbers alone may be asked for: two of them, and no other is there, by any method
-two_targets : map (numbers_routed (codes "GET")) (codes "/metrics" ∷ codes "/healthz" ∷ codes "/config" ∷ codes "/close" ∷ codes "/reopen" ∷ codes "/metrics/" ∷ codes "/" ∷ [])
+two_targets : map (numbers_routed (codes "GET")) (codes "/metrics" ∷ codes "/healthz" ∷ codes "/config" ∷ codes "/close" ∷ codes "/reopen" ∷ codes "/metrics/" ∷ codes "/status.json" ∷ codes "/" ∷ [])
     ++ map (numbers_routed (codes "POST")) (codes "/metrics" ∷ codes "/healthz" ∷ codes "/config" ∷ codes "/close" ∷ codes "/reopen" ∷ [])
-    ≡ Metrics ∷ Health ∷ NotFound ∷ NotFound ∷ NotFound ∷ NotFound ∷ NotFound
+    ≡ Metrics ∷ Health ∷ NotFound ∷ NotFound ∷ NotFound ∷ NotFound ∷ NotFound ∷ NotFound
     ∷ WrongMethod Get ∷ WrongMethod Get ∷ NotFound ∷ NotFound ∷ NotFound ∷ []
 two_targets = refl
 
@@ -50,14 +50,14 @@ near_methods : routed (codes "get") (codes "/metrics") ∷ routed (codes "GETS")
     ≡ WrongMethod Get ∷ WrongMethod Get ∷ WrongMethod Post ∷ WrongMethod Get ∷ WrongMethod Get ∷ []
 near_methods = refl
 
-asked_by_head : map (routed (codes "HEAD")) (codes "/metrics" ∷ codes "/healthz" ∷ codes "/config" ∷ codes "/close" ∷ codes "/reopen" ∷ codes "/other" ∷ [])
-    ≡ Metrics ∷ Health ∷ Config ∷ WrongMethod Post ∷ WrongMethod Post ∷ NotFound ∷ []
+asked_by_head : map (routed (codes "HEAD")) (codes "/metrics" ∷ codes "/healthz" ∷ codes "/config" ∷ codes "/status.json" ∷ codes "/close" ∷ codes "/reopen" ∷ codes "/other" ∷ [])
+    ≡ Metrics ∷ Health ∷ Config ∷ Status ∷ WrongMethod Post ∷ WrongMethod Post ∷ NotFound ∷ []
 asked_by_head = refl
 
 -- by `GET`, another target: with a query, with a slash more or less, in capitals, in absolute form, of the traces
 near_targets : map (routed (codes "GET"))
-    (codes "/metrics?x" ∷ codes "/metrics/" ∷ codes "metrics" ∷ codes "/Metrics" ∷ codes "//metrics" ∷ codes "http://x/metrics" ∷ codes "//" ∷ codes "" ∷ codes "/?" ∷ codes "/index.html" ∷ codes "*" ∷ codes "/health" ∷ codes "/%6detrics" ∷ [])
-    ≡ NotFound ∷ NotFound ∷ NotFound ∷ NotFound ∷ NotFound ∷ NotFound ∷ NotFound ∷ NotFound ∷ NotFound ∷ NotFound ∷ NotFound ∷ NotFound ∷ NotFound ∷ []
+    (codes "/metrics?x" ∷ codes "/metrics/" ∷ codes "metrics" ∷ codes "/Metrics" ∷ codes "//metrics" ∷ codes "http://x/metrics" ∷ codes "//" ∷ codes "" ∷ codes "/?" ∷ codes "/index.html" ∷ codes "/status" ∷ codes "/Status.json" ∷ codes "/status.json?x" ∷ codes "*" ∷ codes "/health" ∷ codes "/%6detrics" ∷ [])
+    ≡ NotFound ∷ NotFound ∷ NotFound ∷ NotFound ∷ NotFound ∷ NotFound ∷ NotFound ∷ NotFound ∷ NotFound ∷ NotFound ∷ NotFound ∷ NotFound ∷ NotFound ∷ NotFound ∷ NotFound ∷ NotFound ∷ []
 near_targets = refl
 
 traces_there : routed (codes "POST") (codes "/v1/traces") ∷ routed (codes "POST") (codes "/close/") ∷ routed (codes "POST") (codes "/close?now") ∷ routed (codes "POST") (codes "/Reopen") ∷ []
@@ -78,14 +78,16 @@ of_another_site : asked_by Full (codes "POST") (codes "/close") true ∷ asked_b
     ∷ asked Close false ∷ asked Forbidden false ∷ asked Reopen false ∷ []
 of_another_site = refl
 
--- which routes have power, and which are harmless: one that asks for the configuration has none, and isn't
+-- which routes have power, which are harmless (one that asks for the configuration has none, and isn't), and which tell
+-- what was counted
 routes : List Route
-routes = Close ∷ Reopen ∷ Metrics ∷ Health ∷ Config ∷ Page ∷ Forbidden ∷ NotFound ∷ WrongMethod Get ∷ WrongMethod Post ∷ Bad ∷ TooLarge ∷ []
+routes = Close ∷ Reopen ∷ Metrics ∷ Health ∷ Config ∷ Status ∷ Page ∷ Forbidden ∷ NotFound ∷ WrongMethod Get ∷ WrongMethod Post ∷ Bad ∷ TooLarge ∷ []
 
-powers : map closes routes ++ (map reopens routes ++ map is_harmless routes)
-    ≡ (true ∷ false ∷ false ∷ false ∷ false ∷ false ∷ false ∷ false ∷ false ∷ false ∷ false ∷ false ∷ [])
-    ++ ((false ∷ true ∷ false ∷ false ∷ false ∷ false ∷ false ∷ false ∷ false ∷ false ∷ false ∷ false ∷ [])
-    ++ (false ∷ false ∷ true ∷ true ∷ false ∷ false ∷ true ∷ true ∷ true ∷ true ∷ true ∷ true ∷ []))
+powers : map closes routes ++ (map reopens routes ++ (map is_harmless routes ++ map is_counted routes))
+    ≡ (true ∷ false ∷ false ∷ false ∷ false ∷ false ∷ false ∷ false ∷ false ∷ false ∷ false ∷ false ∷ false ∷ [])
+    ++ ((false ∷ true ∷ false ∷ false ∷ false ∷ false ∷ false ∷ false ∷ false ∷ false ∷ false ∷ false ∷ false ∷ [])
+    ++ ((false ∷ false ∷ true ∷ true ∷ false ∷ true ∷ false ∷ true ∷ true ∷ true ∷ true ∷ true ∷ true ∷ [])
+    ++ (false ∷ false ∷ true ∷ false ∷ false ∷ true ∷ false ∷ false ∷ false ∷ false ∷ false ∷ false ∷ false ∷ [])))
 unfolding routes
 powers = refl
 
@@ -142,7 +144,7 @@ answered route s = answer_of (asked route false) s
 -- of the collector; the numbers are told, too, while it closes
 of_the_collector : answered Metrics open_state ∷ answered Health open_state ∷ answered Config open_state
     ∷ answered Close closing_state ∷ answered Metrics closing_state ∷ answered Health closing_state
-    ∷ answered Reopen open_state ∷ []
+    ∷ answered Reopen open_state ∷ answered Status open_state ∷ []
     ≡ (codes "HTTP/1.1 200 OK\r\nContent-Type: text/plain; version=0.0.4; charset=utf-8\r\nContent-Length: 4\r\n"
     ++ codes "Connection: close\r\n\r\nm 1\n")
     ∷ codes "HTTP/1.1 200 OK\r\nContent-Type: text/plain\r\nContent-Length: 3\r\nConnection: close\r\n\r\nok\n"
@@ -153,7 +155,8 @@ of_the_collector : answered Metrics open_state ∷ answered Health open_state �
     ++ codes "Connection: close\r\n\r\nm 22\n")
     ∷ (codes "HTTP/1.1 503 Service Unavailable\r\nContent-Type: text/plain\r\nContent-Length: 8\r\n"
     ++ codes "Connection: close\r\n\r\nclosing\n")
-    ∷ codes "HTTP/1.1 200 OK\r\nContent-Type: application/json\r\nContent-Length: 2\r\nConnection: close\r\n\r\n{}" ∷ []
+    ∷ codes "HTTP/1.1 200 OK\r\nContent-Type: application/json\r\nContent-Length: 2\r\nConnection: close\r\n\r\n{}"
+    ∷ codes "HTTP/1.1 200 OK\r\nContent-Type: application/json\r\nContent-Length: 4\r\nConnection: close\r\n\r\nm 1\n" ∷ []
 unfolding answered digits open_state closing_state
 of_the_collector = refl
 

@@ -14,7 +14,7 @@ use Rattle.admin_http.specs.declared.asked.Method.TheVariants.{Get, Post}
 use Rattle.admin_http.specs.declared.asked.Access.{Access}
 use Rattle.admin_http.specs.declared.asked.Access.TheVariants.{Full, Numbers}
 use Rattle.admin_http.specs.declared.asked.Route.{Route}
-use Rattle.admin_http.specs.declared.asked.Route.TheVariants.{Close, Reopen, Metrics, Health, Config, Page, Forbidden, NotFound, WrongMethod, Bad, TooLarge}
+use Rattle.admin_http.specs.declared.asked.Route.TheVariants.{Close, Reopen, Metrics, Health, Config, Status, Page, Forbidden, NotFound, WrongMethod, Bad, TooLarge}
 use Rattle.admin_http.specs.declared.asked.AdminRequest.{AdminRequest}
 
 -- a method by which a target is asked; where it is `GET` it may be `HEAD` (RFC 9110, section 9.3.2)
@@ -39,8 +39,9 @@ routed method target =
     if bytes_eq target (codes "/close") then only_by Post method Close
     else (if bytes_eq target (codes "/reopen") then only_by Post method Reopen
     else (if bytes_eq target (codes "/config") then only_by Get method Config
+    else (if bytes_eq target (codes "/status.json") then only_by Get method Status
     else (if bytes_eq target (codes "/") then only_by Get method Page
-    else numbers_routed method target)))
+    else numbers_routed method target))))
 
 -- the answer to `HEAD` has no body
 abbrev pub asked : Route → (is_head : Bool) → AdminRequest

@@ -5,7 +5,7 @@ use Rattle.http_text.specs.Lines.{Waits, cut, head_len}
 use Rattle.admin_http.specs.declared.asked.AdminRequest.{AdminRequest}
 use Rattle.admin_http.specs.declared.asked.Access.{Access}
 use Rattle.admin_http.specs.declared.asked.Route.{Route}
-use Rattle.admin_http.specs.declared.asked.Route.TheVariants.{Close, Reopen, Metrics, Config, Page}
+use Rattle.admin_http.specs.declared.asked.Route.TheVariants.{Close, Reopen, Metrics, Config, Status, Page}
 use Rattle.admin_http.specs.declared.ends.AdminEnd.{AdminEnd}
 use Rattle.admin_http.specs.declared.ends.AdminEnd.TheVariants.{Heard, Unheard}
 use Rattle.admin_http.specs.declared.ends.Portion.{Portion}
@@ -17,15 +17,21 @@ use Rattle.admin_http.specs.declared.ends.PieceRead.TheVariants.{More, End, NoRo
 use Rattle.admin_http.specs.Asked.{IsHeard}
 use Rattle.admin_http.specs.Texts.{AdminState, AdminTexts, answer_of}
 
--- what an answer tells of is what the collector said: whether it is closing, its texts, and, where they are asked for,
--- its numbers
-pub record IsStateOf (stops : Bool → Type 0) (tells : List ℕ → Type 0) (texts : AdminTexts) (route : Route) (s : AdminState) : Type 0 where
+-- a route asks for what the collector has counted
+abbrev pub is_counted : Route → Bool
+is_counted Metrics = true
+is_counted Status = true
+is_counted _ = false
+
+-- what an answer tells of is what the collector said: whether it is closing, its texts, and, where that is asked for,
+-- what it has counted
+pub record IsStateOf (stops : Bool → Type 0) (tells : Route → List ℕ → Type 0) (texts : AdminTexts) (route : Route) (s : AdminState) : Type 0 where
   pub is_stopping : stops s.is_stopping
   pub same : s.texts ≡ texts
-  pub metrics : route ≡ Metrics → tells s.metrics
+  pub counted : is_counted route ≡ true → tells route s.counted
 
 -- this is the answer to a request
-abbrev pub Answers : (stops : Bool → Type 0) (tells : List ℕ → Type 0) (texts : AdminTexts) → AdminRequest → (text : List ℕ) → Type 0
+abbrev pub Answers : (stops : Bool → Type 0) (tells : Route → List ℕ → Type 0) (texts : AdminTexts) → AdminRequest → (text : List ℕ) → Type 0
 Answers stops tells texts asked text = (s : AdminState) × IsStateOf stops tells texts asked.route s × (text ≡ answer_of asked s)
 
 -- what was written of a text
@@ -44,7 +50,7 @@ IsMade Nothing = ⊥
 IsMade _ = Unit {0}
 
 -- a request was answered, unless there was no memory for the answer
-abbrev pub Responds : (stops : Bool → Type 0) (tells : List ℕ → Type 0) (texts : AdminTexts) (old new : Option (List ℕ)) → AdminRequest → Portion → Type 0
+abbrev pub Responds : (stops : Bool → Type 0) (tells : Route → List ℕ → Type 0) (texts : AdminTexts) (old new : Option (List ℕ)) → AdminRequest → Portion → Type 0
 Responds stops tells texts old new asked Nothing = new ≡ old
 Responds stops tells texts old new asked sent = (text : List ℕ) × Answers stops tells texts asked text × Puts old new text sent
 
@@ -70,11 +76,11 @@ abbrev pub Hears : Access → (left left_after : Option (List ℕ)) → Result A
 Hears access left left_after heard = (read : List ℕ) × Consumes left left_after read × HearsIn access left_after read heard
 
 -- the end of a connection in which this was read: a request was answered, or none was heard and nothing was written
-abbrev pub EndsWith : Access → (stops : Bool → Type 0) (tells : List ℕ → Type 0) (texts : AdminTexts) (left_after old new : Option (List ℕ)) → (read : List ℕ) → AdminEnd → Type 0
+abbrev pub EndsWith : Access → (stops : Bool → Type 0) (tells : Route → List ℕ → Type 0) (texts : AdminTexts) (left_after old new : Option (List ℕ)) → (read : List ℕ) → AdminEnd → Type 0
 EndsWith access stops tells texts left_after old new read (Heard asked sent) = IsHeard access read (Some asked) × Responds stops tells texts old new asked sent
 EndsWith access stops tells texts left_after old new read (Unheard silence) = IsSilent left_after read silence × (new ≡ old)
 
-abbrev pub Served : Access → (stops : Bool → Type 0) (tells : List ℕ → Type 0) (texts : AdminTexts) (left left_after old new : Option (List ℕ)) → AdminEnd → Type 0
+abbrev pub Served : Access → (stops : Bool → Type 0) (tells : Route → List ℕ → Type 0) (texts : AdminTexts) (left left_after old new : Option (List ℕ)) → AdminEnd → Type 0
 Served access stops tells texts left left_after old new end =
     (read : List ℕ) × Consumes left left_after read × EndsWith access stops tells texts left_after old new read end
 

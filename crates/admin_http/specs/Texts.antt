@@ -2,7 +2,7 @@
 use Rattle.std.specs.Prelude.{◌≡◌, ℕ, Bool, List, [], ◌++◌, length, if◌then◌else◌, codes, decimal}
 use Rattle.admin_http.specs.declared.asked.Method.TheVariants.{Get, Post}
 use Rattle.admin_http.specs.declared.asked.Route.{Route}
-use Rattle.admin_http.specs.declared.asked.Route.TheVariants.{Close, Reopen, Metrics, Health, Config, Page, Forbidden, NotFound, WrongMethod, Bad, TooLarge}
+use Rattle.admin_http.specs.declared.asked.Route.TheVariants.{Close, Reopen, Metrics, Health, Config, Status, Page, Forbidden, NotFound, WrongMethod, Bad, TooLarge}
 use Rattle.admin_http.specs.declared.asked.Access.{Access}
 use Rattle.admin_http.specs.declared.asked.AdminRequest.{AdminRequest}
 use Rattle.admin_http.specs.Asked.{asked_by, route_by}
@@ -14,15 +14,15 @@ pub record AdminTexts : Type 0 where
   pub page : List ℕ
   pub page_fields : List ℕ
 
--- what an answer tells of: whether the collector is closing, the text of its numbers, and those that stay
+-- what an answer tells of: whether the collector is closing, the text of what it has counted, and those that stay
 pub record AdminState : Type 0 where
   pub is_stopping : Bool
-  pub metrics : List ℕ
+  pub counted : List ℕ
   pub texts : AdminTexts
 
-abbrev pub state : (is_stopping : Bool) (metrics config page page_fields : List ℕ) → AdminState
-state is_stopping metrics config page page_fields =
-    record { is_stopping = is_stopping; metrics = metrics; texts = record { config = config; page = page; page_fields = page_fields } }
+abbrev pub state : (is_stopping : Bool) (counted config page page_fields : List ℕ) → AdminState
+state is_stopping counted config page page_fields =
+    record { is_stopping = is_stopping; counted = counted; texts = record { config = config; page = page; page_fields = page_fields } }
 
 -- the status, its reason phrase, the media type and the body
 pub record AdminPage : Type 0 where
@@ -47,9 +47,10 @@ health_page is_stopping =
 abbrev pub page_of : Route → AdminState → AdminPage
 page_of Close s = json 200 (codes "OK") (codes "{}")
 page_of Reopen s = json 200 (codes "OK") (codes "{}")
-page_of Metrics s = page 200 (codes "OK") (codes "text/plain; version=0.0.4; charset=utf-8") s.metrics
+page_of Metrics s = page 200 (codes "OK") (codes "text/plain; version=0.0.4; charset=utf-8") s.counted
 page_of Health s = health_page s.is_stopping
 page_of Config s = page 200 (codes "OK") (codes "application/toml") s.texts.config
+page_of Status s = json 200 (codes "OK") s.counted
 page_of Page s = page 200 (codes "OK") (codes "text/html; charset=utf-8") s.texts.page
 page_of Forbidden s = json 403 (codes "Forbidden") (codes "{\"message\":\"forbidden\"}")
 page_of NotFound s = json 404 (codes "Not Found") (codes "{\"message\":\"not found\"}")

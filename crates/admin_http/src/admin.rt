@@ -1,6 +1,8 @@
 //! What is asked of a collector at this address.
 ghost use Rattle.std.specs.Prelude.{◌≡◌, ℕ, List, Bool, true, IfOk, string_bytes};
 ghost use Rattle.admin_http.specs.Texts.{AdminTexts};
+ghost use Rattle.admin_http.specs.declared.asked.Route.{Route};
+ghost use Rattle.admin_http.specs.declared.asked.Route.TheVariants.{Metrics, Status};
 
 use std::alloc::{AllocError, Global};
 
@@ -15,8 +17,8 @@ pub trait Admin {
     /// It may say this of whether it is closing.
     ghost stops: { Self → Bool → Type 0 };
 
-    /// It may tell its numbers by this text.
-    ghost tells: { Self → List ℕ → Type 0 };
+    /// It may tell what it has counted by this text, to a request that goes there.
+    ghost tells: { Self → Route → List ℕ → Type 0 };
 
     /// Its texts that stay.
     ghost texts: { Self → AdminTexts };
@@ -35,7 +37,11 @@ pub trait Admin {
 
     /// Its numbers, as Prometheus reads them.
     fn metrics(&self, alloc: Global) -> Result<String, AllocError>
-        ensures { IfOk result (λ text. tells self.now (string_bytes text)) };
+        ensures { IfOk result (λ text. tells self.now Metrics (string_bytes text)) };
+
+    /// Its counts, now and over the last minutes, as JSON.
+    fn status(&self, alloc: Global) -> Result<String, AllocError>
+        ensures { IfOk result (λ text. tells self.now Status (string_bytes text)) };
 
     /// Its configuration, in TOML.
     fn config(&self) -> &str

@@ -32,6 +32,8 @@ pub enum Route {
     Health,
     /// `GET /config`: its configuration, as it stands.
     Config,
+    /// `GET /status.json`: its counts, now and over the last minutes, as JSON.
+    Status,
     /// `GET /`: a page that shows its numbers, its health and its configuration.
     Page,
     /// 403: a `POST` that a page of another site may have sent.

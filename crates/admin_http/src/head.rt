@@ -70,6 +70,9 @@ fn routed(method: &[u8], target: &[u8]) -> Route
     if target == b"/config".as_slice() {
         return only_by(Method::Get, method, Route::Config);
     }
+    if target == b"/status.json".as_slice() {
+        return only_by(Method::Get, method, Route::Status);
+    }
     if target == b"/".as_slice() {
         return only_by(Method::Get, method, Route::Page);
     }

@@ -1,6 +1,6 @@
 //! One connection.
 ghost use Rattle.std.specs.Prelude.{◌≡◌, ◌<◌, ◌≤◌, ℕ, List, Bool, true, false, IfOk, length, string_bytes};
-ghost use Rattle.admin_http.specs.Serving.{Answers, Hears, IsMade, Puts, Responds, Served, Takes, asked_to_close, asked_to_reopen, closes, reopens, was_harmless};
+ghost use Rattle.admin_http.specs.Serving.{Answers, Hears, IsMade, Puts, Responds, Served, Takes, asked_to_close, asked_to_reopen, closes, is_counted, reopens, was_harmless};
 ghost use Rattle.admin_http.specs.declared.asked.Access.TheVariants.{Numbers};
 
 use crate::admin::Admin;
@@ -40,6 +40,17 @@ fn reopens(route: Route) -> bool
     matches!(route, Route::Reopen)
 }
 
+/// The text of what the collector has counted, where a route asks for that.
+fn counted_text<A: Admin>(alloc: Global, admin: &A, route: Route) -> Result<String, AllocError>
+    ensures { IfOk result (λ text. is_counted route ≡ true → A.tells admin.now route (string_bytes text)) }
+{
+    match route {
+        Route::Metrics => admin.metrics(alloc),
+        Route::Status => admin.status(alloc),
+        _ => Ok(String::new(alloc)),
+    }
+}
+
 /// The answer to a request. To one that asks the collector to close, or to open its output anew, that it was asked to.
 fn answer_from<A: Admin>(
     alloc: Global,
@@ -51,13 +62,10 @@ fn answer_from<A: Admin>(
     ensures { IfOk result (λ text. Answers (A.stops admin.now) (A.tells admin.now) (A.texts admin.now) asked (string_bytes text)) }
 {
     let is_stopping = admin.is_stopping();
-    let metrics = match asked.route {
-        Route::Metrics => admin.metrics(alloc)?,
-        _ => String::new(alloc),
-    };
+    let counted = counted_text(alloc, admin, asked.route)?;
     let told = Told {
         is_stopping,
-        metrics: metrics.as_str(),
+        counted: counted.as_str(),
         config: admin.config(),
         page: admin.page(),
         page_fields: admin.page_fields(),

@@ -19,8 +19,8 @@ struct AdminPage<'a> {
 pub struct Told<'a> {
     /// The collector is closing.
     pub is_stopping: bool,
-    /// The text of its numbers, where they are asked for.
-    pub metrics: &'a str,
+    /// The text of what it has counted, where that is asked for.
+    pub counted: &'a str,
     /// The text of its configuration.
     pub config: &'a str,
     /// The page that shows it, in HTML.
@@ -31,7 +31,7 @@ pub struct Told<'a> {
 
 /// The answer to a request, from what it tells of.
 pub fn answer(alloc: Global, asked: AdminRequest, told: Told<'_>) -> Result<String, AllocError>
-    ensures { IfOk result (λ text. string_bytes text ≡ answer_of asked (state told.entry.is_stopping told.entry.metrics.now told.entry.config.now told.entry.page.now told.entry.page_fields.now)) }
+    ensures { IfOk result (λ text. string_bytes text ≡ answer_of asked (state told.entry.is_stopping told.entry.counted.now told.entry.config.now told.entry.page.now told.entry.page_fields.now)) }
 {
     let shown = page_of(asked.route, told);
     page_text(alloc, &shown, own_fields(asked.route, told), asked.is_head)
@@ -39,7 +39,7 @@ pub fn answer(alloc: Global, asked: AdminRequest, told: Told<'_>) -> Result<Stri
 
 /// What a route is answered.
 fn page_of<'a>(route: Route, told: Told<'a>) -> AdminPage<'a>
-    ensures { page result.status result.reason.now result.media.now result.body.now ≡ page_of route (state told.entry.is_stopping told.entry.metrics.now told.entry.config.now told.entry.page.now told.entry.page_fields.now) }
+    ensures { page result.status result.reason.now result.media.now result.body.now ≡ page_of route (state told.entry.is_stopping told.entry.counted.now told.entry.config.now told.entry.page.now told.entry.page_fields.now) }
 {
     match route {
         Route::Close | Route::Reopen => json(200, "OK", "{}"),
@@ -47,7 +47,7 @@ fn page_of<'a>(route: Route, told: Told<'a>) -> AdminPage<'a>
             status: 200,
             reason: "OK",
             media: "text/plain; version=0.0.4; charset=utf-8",
-            body: told.metrics,
+            body: told.counted,
         },
         Route::Health => health_page(told.is_stopping),
         Route::Config => AdminPage {
@@ -55,6 +55,12 @@ fn page_of<'a>(route: Route, told: Told<'a>) -> AdminPage<'a>
             reason: "OK",
             media: "application/toml",
             body: told.config,
+        },
+        Route::Status => AdminPage {
+            status: 200,
+            reason: "OK",
+            media: "application/json",
+            body: told.counted,
         },
         Route::Page => AdminPage {
             status: 200,
@@ -112,7 +118,7 @@ fn health_page(is_stopping: bool) -> AdminPage<'static>
 
 /// The fields that an answer has of its own.
 fn own_fields<'a>(route: Route, told: Told<'a>) -> &'a str
-    ensures { result.now ≡ own_fields route (state told.entry.is_stopping told.entry.metrics.now told.entry.config.now told.entry.page.now told.entry.page_fields.now) }
+    ensures { result.now ≡ own_fields route (state told.entry.is_stopping told.entry.counted.now told.entry.config.now told.entry.page.now told.entry.page_fields.now) }
 {
     match route {
         Route::Page => told.page_fields,

@@ -9,7 +9,7 @@ use crate::logging::{say_fault, say_listening, say_settings};
 use admin_http::Access;
 use collector_board::{Board, OutputStall, StopMark};
 use collector_serve::{
-    Charge, ClosingDoor, EventWriter, MEMORY_ACCOUNT, close_at_end, end_admin, listen, start_admin,
+    Charge, ClosingDoor, EventWriter, History, MEMORY_ACCOUNT, close_at_end, end_admin, listen, start_admin,
     start_log_watch, start_memory_watch,
 };
 use config_text::settings_in_force;
@@ -62,6 +62,7 @@ pub fn charge_of(
         metrics_address: config.metrics.try_clone(alloc)?,
         stall: OutputStall::new(),
         page: status_page(),
+        history: History::new(alloc)?,
     };
     Ok(Arc::new(alloc, charge)?)
 }

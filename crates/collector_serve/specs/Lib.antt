@@ -2,9 +2,11 @@
 -- Driven: what the lanes of a run did.
 -- Requests: what a configuration says of requests to a backend.
 -- Moments: which moment it is, by the time that has passed.
+-- Told: what those in charge are told.
 -- Memory: when requests are refused since the process takes too much memory.
 pub mod Sharing
 pub mod Driven
 pub mod Requests
 pub mod Moments
+pub mod Told
 pub mod Memory

@@ -2,13 +2,16 @@
 ghost use Rattle.std.specs.Prelude.{◌≡◌, ∥◌∥₁, IfSome};
 
 use crate::admin_door::end_admin;
+use crate::history::History;
+use crate::wall_clock::WallClock;
 use admin_http::Admin;
 use collector_board::{Board, Closer, OutputStall, StopMark};
-use http_lane::HasStopMark;
+use http_lane::{Clock as Moments, HasStopMark};
 use lane_driver::Loads;
 use metrics_text::{Metrics, metrics_text};
 use otlp_types::Text;
 use output_file::ReopenMark;
+use status_json::{Status, status_text};
 use status_page::StatusPage;
 use std::alloc::{AllocError, Global};
 use std::io::Read;
@@ -43,6 +46,8 @@ pub struct Charge {
     pub metrics_address: Text,
     /// The page that shows what it tells.
     pub page: StatusPage,
+    /// The counts of the last minutes.
+    pub history: History,
 }
 
 impl Charge {
@@ -133,11 +138,7 @@ impl<'c, R: Clock + Wait> InCharge<'c, R> {
 
 impl<'c, R: Clock + Wait> Admin for InCharge<'c, R> {
     ghost use Rattle.std.specs.Prelude.{◌≡◌, None, false, is_some, string_bytes};
-    ghost use Rattle.metrics_text.specs.Text.{metrics_text};
-    ghost use Rattle.metrics_text.specs.declared.metrics.Metrics.{Metrics};
-    ghost use Rattle.metrics_text.specs.declared.metrics.ShardNumbers.{ShardNumbers};
-    ghost use Rattle.metrics_text.specs.declared.metrics.PolicyNumbers.{PolicyNumbers};
-    ghost use Rattle.std.specs.Prelude.{List};
+    ghost use Rattle.collector_serve.specs.Told.{IsToldAt};
 
     ghost is_closed = { λ a. is_some a.closed };
 
@@ -145,7 +146,7 @@ impl<'c, R: Clock + Wait> Admin for InCharge<'c, R> {
 
     ghost stops = { λ a said. said ≡ false → a.closed ≡ None };
 
-    ghost tells = { λ a text. (metrics : Metrics) × (policies : List PolicyNumbers) × (shards : List ShardNumbers) × (text ≡ metrics_text metrics policies shards) };
+    ghost tells = { λ a route text. IsToldAt route text };
 
     ghost texts = { λ a. record {
       config = string_bytes a.charge.now.configuration;
@@ -172,6 +173,16 @@ impl<'c, R: Clock + Wait> Admin for InCharge<'c, R> {
         let shards = self.charge.board.shards(alloc)?;
         let text = metrics_text(alloc, &metrics, &policies, &shards)?;
         Ok(text)
+    }
+
+    fn status(&self, alloc: Global) -> Result<String, AllocError> {
+        let status = Status {
+            now: WallClock::new(self.rt).now(),
+            report: self.charge.board.report(),
+            waiting: self.charge.board.waiting(),
+        };
+        let rows = self.charge.history.rows(alloc)?;
+        status_text(alloc, &status, &rows)
     }
 
     fn config(&self) -> &str {

@@ -93,6 +93,7 @@ fn watch<W: Write + Drop, R: Wait + Clock>(
             // From the clock as it is now, so that one jump is told once.
             steady = SteadyClock::new(rt);
         }
+        charge.history.looks(wall, charge.board.report());
         look_at_numbers(rt, alloc, &mut events, charge, &mut known, now);
         look_at_backend(rt, alloc, &mut events, charge, &mut known, now);
         look_at_output(rt, alloc, &mut events, charge, &mut known, now);

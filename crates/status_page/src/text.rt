@@ -2,7 +2,7 @@
 
 /// The page, in HTML.
 pub(crate) const TEXT: &str = "<!doctype html>\n\
-    <html lang=\"en\" data-feeds=\"metrics\">\n\
+    <html lang=\"en\" data-feeds=\"metrics status\">\n\
     <head>\n\
     <meta charset=\"utf-8\">\n\
     <meta name=\"viewport\" content=\"width=device-width, initial-scale=1\">\n\

@@ -1,0 +1,17 @@
+-- What those in charge of a collector are told.
+use Rattle.std.specs.Prelude.{◌≡◌, ℕ, List}
+use Rattle.admin_http.specs.declared.asked.Route.{Route}
+use Rattle.admin_http.specs.declared.asked.Route.TheVariants.{Metrics as ToMetrics, Status as ToStatus}
+use Rattle.metrics_text.specs.Text.{metrics_text}
+use Rattle.metrics_text.specs.declared.metrics.Metrics.{Metrics}
+use Rattle.metrics_text.specs.declared.metrics.ShardNumbers.{ShardNumbers}
+use Rattle.metrics_text.specs.declared.metrics.PolicyNumbers.{PolicyNumbers}
+use Rattle.status_json.specs.Text.{status_text}
+use Rattle.status_json.specs.declared.status.Status.{Status}
+use Rattle.status_json.specs.declared.status.HistoryRow.{HistoryRow}
+
+-- the text of some numbers, and of some counts with those of some moments before; which these are, no clause says
+abbrev pub IsToldAt : Route → (text : List ℕ) → Type 0
+IsToldAt ToMetrics text = (metrics : Metrics) × (policies : List PolicyNumbers) × (shards : List ShardNumbers) × (text ≡ metrics_text metrics policies shards)
+IsToldAt ToStatus text = (status : Status) × (rows : List HistoryRow) × (text ≡ status_text status rows)
+IsToldAt _ text = Unit {0}
