@@ -212,6 +212,32 @@ def in_charge_by_a_socket(start):
         want("`tsc close` where there is none", (ran.returncode, ran.stdout), (6, b"tsc: cannot close\n"))
 
 
+def nameless_policies(start):
+    """What policies without a name decided is told with what none decided, each trace once."""
+    admin = free_port()
+    of = lambda name, code: f'{{ name = "{name}", type = "status_code", status_code = {{ status_codes = ["{code}"] }} }}'
+    collector = start(f'admin = "127.0.0.1:{admin}"\ntick_ms = 50\ndecision_wait_ms = 50\npolicies = [{of("e", "ERROR")}, {of("", "OK")}]\n')
+    codes = [2] * 2 + [1] * 3 + [0] * 4
+    collector.ask(post(body_of([{"traceId": f"{at + 1:032x}", "spanId": f"{9:016x}", "status": {"code": code}} for at, code in enumerate(codes)])))
+    comes_to("the decisions", lambda: decided_of(scrape(admin), "e"), [2, 0, 3, 4])
+    want("the answer to /close", asked(admin, post(b"", "/close"))[::2], (200, "{}"))
+    want("the report", collector.end()[1], [9, 5, 0, 0, 0, 0, 4, 0, 0])
+
+
+def told_at_the_tick(start):
+    """What waits in a shard is told once it was decided, at that tick and not at the next one, which is seconds away."""
+    admin = free_port()
+    collector = start(f'admin = "127.0.0.1:{admin}"\ntick_ms = 3000\ndecision_wait_ms = 10\n' + ALL)
+    collector.ask(post(body_of([{"traceId": f"{trace:032x}", "spanId": f"{9:016x}"} for trace in range(1, 6)])))
+    told = lambda *names: [numbers[name] for numbers in [scrape(admin)] for name in names]
+    comes_to("the decisions", lambda: decided_of(scrape(admin), "all"), [5, 0, 0, 0])
+    began = time.monotonic()
+    comes_to("what waits", lambda: told('tsc_shard_traces_waiting{shard="0"}', 'tsc_shard_spans_waiting{shard="0"}'), [0, 0])
+    at_most("the time until that is told", 2, began)
+    want("the answer to /close", asked(admin, post(b"", "/close"))[::2], (200, "{}"))
+    want("the report", collector.end()[1], [5, 5, 0, 0, 0, 0, 0, 0, 0])
+
+
 def numbers_alone(start):
     """Numbers and health alone are told at `metrics`, within ten seconds while a hundred clients say nothing there (in one of three tries, of which a
     machine that stands still may spoil two); whatever else is asked isn't found. Silent ones don't hold up `admin` either."""
@@ -313,8 +339,8 @@ def odd_questions(start):
         (post(b"", "/metrics"), 405, "get, head"),
         (get("/metrics", "get"), 405, "get, head"),
         (get("/close", "HEAD"), 405, "post"),
-        (get("/", "HEAD"), 404, None),
-        (get("/"), 404, None),
+        (get("/index.html", "HEAD"), 404, None),
+        (get("//"), 404, None),
         (post(body_of([ERROR_SPAN])), 404, None),
         (b"what\r\n\r\n", 400, None),
         (b"GET /healthz HTTP/1.0\r\nHost: x\r\n\r\n", 400, None),
@@ -322,9 +348,13 @@ def odd_questions(start):
     ]:
         got = asked(admin, data, not data.startswith(b"HEAD"))
         want(f"the answer to {data[:20]!r}", (got[0], got[1].get("allow")), (status, allow))
-    for target in ("/config", "/healthz"):
+    for target in ("/config", "/healthz", "/"):
         want(f"HEAD {target}", asked(admin, get(target, "HEAD"), False), asked(admin, get(target))[:2] + ("",))
     want("HEAD /metrics", asked(admin, get("/metrics", "HEAD"), False)[0], 200)
+    began = time.monotonic()
+    for _ in range(10):
+        want("health", asked(admin, get("/healthz"))[0], 200)
+    at_most("ten answers, each with the end of its connection", 5, began)
     silent = Client(admin)
     began = time.monotonic()
     want("health behind a silent one", asked(admin, get("/healthz"))[0], 200)
@@ -338,8 +368,10 @@ def answers_by_status(start):
     """How many requests were answered is told by each status, also of two that were answered at once."""
     admin = free_port()
     collector = start(f'admin = "127.0.0.1:{admin}"\n' + ALL)
-    slow = collector.client()
+    idle = [collector.client() for _ in range(20)]
+    slow, began = collector.client(), time.monotonic()
     slow.send(b"POST /v1/traces HTTP/1.1\r\n")
+    idle += [collector.client() for _ in range(20)]
     two = collector.client()
     two.send(post(body_of([ERROR_SPAN])) * 2)
     for _ in range(2):
@@ -356,6 +388,7 @@ def answers_by_status(start):
         for _ in range(count):
             want("the status", collector.ask(request)[0], status)
     want("the answer to a slow one", slow.answer()[0], 408)
+    at_most("the wait of one whose head isn't whole after ten seconds, beside idle ones", 40, began)
     codes = ["200", "400", "404", "405", "408", "413", "415", "431", "503"]
     told = lambda: [numbers[f'tsc_requests_total{{code="{code}"}}'] for numbers in [scrape(admin)] for code in codes]
     comes_to("the answers", told, [2, 3, 4, 5, 1, 6, 7, 8, 0])
@@ -524,6 +557,8 @@ CHECKS = [
     counts_as_json,
     pages_of_other_sites,
     told_by_shards,
+    nameless_policies,
+    told_at_the_tick,
     numbers_alone,
     numbers_by_a_socket,
     asks_to_reopen,

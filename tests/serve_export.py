@@ -336,6 +336,20 @@ def waits_grow(start):
         raise Failure(f"the soonest of three lines was sent again after {soonest:.3f} s, with 400 ms for the first wait")
 
 
+def short_waits(start):
+    """Where the longest wait is forty milliseconds, each wait is twenty at least: in a second and a half no more than a hundred attempts."""
+    backend = Backend([[answer(503)]] * 4000)
+    collector = start(FAST + ALL + backend.settings("timeout_ms = 60000\nretry_initial_ms = 40\nretry_max_ms = 40\nclose_wait_ms = 1\n"))
+    send(collector, 0)
+    until("the first attempt", lambda: backend.requests)
+    time.sleep(1.5)
+    first = backend.times[0]
+    within = sum(at < first + 1.5 for at in list(backend.times))
+    if not 2 <= within <= 100:
+        raise Failure(f"{within} attempts within a second and a half")
+    want("the report", collector.close()[1], [1, 0, 0, 0, 0, 0, 0, 0, 1])
+
+
 def long_answers(start):
     """An answer of sixty thousand bytes is one, and so is one that comes in many pieces."""
     script = [[answer(200, body=b" " * 60000 + b"{}")], [OK[at : at + 8] for at in range(0, len(OK), 8)]]
@@ -446,4 +460,4 @@ def asks_again(client, request):
 
 
 CHECKS = [delivers, sends_headers, prints_too, printing_ends, no_time_is_no_wish, tries_again, tells_attempts, no_answers, gives_up, rejected_spans, waits_for_a_backend, late_answer, patience_ends, under_load]
-CHECKS += [waits_grow, long_answers, trickling_answer, closes_while_it_waits, closes_while_it_hangs, told_behind_a_loss]
+CHECKS += [waits_grow, short_waits, long_answers, trickling_answer, closes_while_it_waits, closes_while_it_hangs, told_behind_a_loss]

@@ -5,8 +5,9 @@ import shutil
 import socket
 import subprocess
 import tempfile
+import time
 
-from collector import ALL, ERROR_SPAN, PATIENCE, Client, Failure, LeftOut, asked, body_of, free_port, post, until, want
+from collector import ALL, ERROR_SPAN, PATIENCE, Client, Failure, LeftOut, asked, body_of, free_port, post, scrape, tried, until, want
 from serve_export import Backend
 from serve_many import comes_back_to, open_files
 
@@ -71,6 +72,39 @@ def second_address(start):
             ran.wait()
 
 
+def addresses_that_hang(start):
+    """Of a backend with two addresses, neither of which takes a connection, an attempt of a second takes a second in all: six at least in ten seconds,
+    in one of three tries."""
+    tried(3, lambda: two_that_hang(start))
+
+
+def two_that_hang(start):
+    """The same, once."""
+    with tempfile.TemporaryDirectory() as folder, socket.socket() as first, socket.socket() as second:
+        first.bind(("127.0.0.2", 0))
+        port, held = first.getsockname()[1], []
+        second.bind(("127.0.0.1", port))
+        for listener in (first, second):
+            # A full queue: whoever connects waits for an answer that doesn't come.
+            listener.listen(0)
+            for _ in range(4):
+                held.append(socket.socket())
+                held[-1].setblocking(False)
+                held[-1].connect_ex(listener.getsockname())
+        admin = free_port()
+        waits = f'[export]\nendpoint = "http://two.test:{port}/v1/traces"\ntimeout_ms = 1000\nretry_initial_ms = 1\nretry_max_ms = 1\nclose_wait_ms = 1\n'
+        collector = start(f'decision_wait_ms = 50\ntick_ms = 20\nadmin = "127.0.0.1:{admin}"\n' + ALL + waits, surroundings={"LD_PRELOAD": library_of("two_addresses", folder)})
+        want("the answer", collector.ask(post(body_of([ERROR_SPAN])))[0], 200)
+        time.sleep(10)
+        ended = scrape(admin)['tsc_export_attempts_total{result="unanswered"}']
+        if not 6 <= ended <= 11:
+            raise Failure(f"{ended} attempts of a second in ten seconds")
+        want("the answer to /close", asked(admin, post(b"", "/close"))[0], 200)
+        want("the report", collector.end()[1], [1, 0, 0, 0, 0, 0, 0, 0, 1])
+        for it in held:
+            it.close()
+
+
 def is_refused(client):
     """Whether a client that waited is told that the collector closes, and not cut off."""
     try:
@@ -132,4 +166,4 @@ def never_reads(start):
     want("the report", collector.close()[1], [0] * 9)
 
 
-CHECKS = [waits_at_the_close, never_reads, interrupted_reads, second_address]
+CHECKS = [waits_at_the_close, never_reads, interrupted_reads, second_address, addresses_that_hang]

@@ -3,9 +3,11 @@
 import json
 import os
 import resource
+import signal
 import socket
 import subprocess
 import sys
+import threading
 import time
 
 from collector import ALL, ERROR_SPAN, Failure, body_of, post, tried, until, want
@@ -323,5 +325,45 @@ def one_reads_nothing(start):
     deaf.close()
 
 
+def slow_pipeliner(start):
+    """A client that sends fifteen hundred requests in one go, and begins to read four seconds later, has all answers, in their order."""
+    collector, count = start("queue_capacity = 65536\n" + ALL), 1500
+    client = socket.socket()
+    client.setsockopt(socket.SOL_SOCKET, socket.SO_RCVBUF, 4096)
+    client.connect(("127.0.0.1", collector.port))
+    requests = [post(body_of(spans_by_number(number, 1))) if number % 3 else post(b"", f"/{number}") for number in range(count)]
+    sending = threading.Thread(target=client.sendall, args=(b"".join(requests),), daemon=True)
+    sending.start()
+    time.sleep(4)
+    client.settimeout(60)
+    told = b""
+    while told.count(b"HTTP/1.1 ") < count and (more := client.recv(65536)):
+        told += more
+    want("the answers", [int(it[:3]) for it in told.split(b"HTTP/1.1 ")[1:]], [200 if number % 3 else 404 for number in range(count)])
+    sending.join()
+    client.close()
+    want("the report", collector.close()[1], [1000, 1000, 0, 0, 0, 0, 0, 0, 0])
+
+
+def unread_at_the_limit(start):
+    """A request that lies there unread, on a connection that has to leave for a new one, is answered: the program stands still while both come."""
+    collector = start("lanes = 1\nmax_connections = 1\n" + ALL)
+    old = collector.client()
+    collector.has_open(1)
+    os.kill(collector.process.pid, signal.SIGSTOP)
+    try:
+        old.send(post(body_of([ERROR_SPAN])))
+        new = collector.client()
+        time.sleep(0.2)
+    finally:
+        os.kill(collector.process.pid, signal.SIGCONT)
+    want("the answer to the old one", old.answer()[::2], (200, "{}"))
+    new.send(post(b"[]"))
+    want("the answer to the new one", new.answer()[0], 400)
+    old.close()
+    new.close()
+    want("the report", collector.close()[1], [1, 1, 0, 0, 0, 0, 0, 0, 0])
+
+
 CHECKS = [beside_idle_ones, numbered_by_connection, tricklers, stays_behind_its_refusal, twenty_thousand_short_ones, two_hundred_thousand_short_ones]
-CHECKS += [few_may_be_open, longest_idle_one_leaves, few_open_files, refusals_arrive, reads_nothing]
+CHECKS += [few_may_be_open, longest_idle_one_leaves, few_open_files, refusals_arrive, reads_nothing, slow_pipeliner, unread_at_the_limit]

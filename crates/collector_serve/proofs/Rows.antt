@@ -1,10 +1,10 @@
 -- Worked rows, computed: a process that may take 800 bytes, and requests to a backend.
 -- They serve the definitions that `MemoryRule`, `request_fields` and `with_export_room` promise.
-use Rattle.std.specs.Prelude.{◌≡◌, ℕ, true, false, [], ◌∷◌, map, codes, refl}
+use Rattle.std.specs.Prelude.{◌≡◌, ℕ, true, false, [], ◌∷◌, ◌++◌, map, codes, refl}
 use Rattle.collector_serve.specs.Moments.{moment_after}
 use Rattle.otlp_encoding.specs.declared.encoding.Encoding.TheVariants.{Json, Protobuf}
 use Rattle.collector_serve.specs.Requests.{room_of, request_fields}
-use Rattle.collector_serve.specs.Memory.{MemoryState, is_short, is_shorter, memory_after}
+use Rattle.collector_serve.specs.Memory.{MemoryState, is_short, is_shorter, memory_after, pause_before}
 
 abbrev state : (most release : ℕ) → MemoryState
 state most release = record { limit = 800; most = most; release = release }
@@ -22,6 +22,11 @@ beyond = refl
 
 until_an_eighth_is_gone : map (is_short (state 801 70) 801) (80 ∷ 71 ∷ 70 ∷ 0 ∷ []) ≡ true ∷ true ∷ false ∷ false ∷ []
 until_an_eighth_is_gone = refl
+
+-- the pauses of a process that may take 100 mebibytes and takes 0, 80, 96, 97 and 101; and of one without a limit
+pauses : map (pause_before 104857600) (0 ∷ 83886080 ∷ 100663296 ∷ 101711872 ∷ 105906176 ∷ []) ++ (pause_before 18446744073709551615 1000000000 ∷ [])
+    ≡ 50 ∷ 10 ∷ 2 ∷ 2 ∷ 2 ∷ 100 ∷ []
+pauses = refl
 
 -- it doesn't grow: nothing changes, however many wait
 no_growth : memory_after (state 801 70) 801 1000 ≡ state 801 70

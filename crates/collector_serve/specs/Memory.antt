@@ -1,5 +1,5 @@
 -- When requests are refused since the process takes too much memory.
-use Rattle.std.specs.Prelude.{ℕ, ◌+◌, ◌-◌, ◌/◌, Bool, ◌&&◌, if◌then◌else◌, nat_le, nat_lt}
+use Rattle.std.specs.Prelude.{ℕ, ◌+◌, ◌-◌, ◌/◌, Bool, ◌&&◌, if◌then◌else◌, nat_le, nat_lt, min, max}
 
 -- what is known of the process's memory: the most that it took since it went beyond its limit, and how many spans may
 -- wait again before requests are taken
@@ -25,6 +25,11 @@ memory_after state taken waiting =
 -- fewer wait than when it grew to its size: then those are kept in what was freed
 abbrev pub is_shorter : MemoryState → (taken waiting : ℕ) → Bool
 is_shorter state taken waiting = nat_lt (state.limit + state.limit / 8) taken && nat_le state.release (waiting / 2)
+
+-- how many milliseconds to wait until the next look: one for each two mebibytes that may still be taken, since a process
+-- doesn't grow faster, from two to a hundred
+abbrev pub pause_before : (limit taken : ℕ) → ℕ
+pause_before limit taken = min (max ((limit - taken) / 1048576 / 2) 2) 100
 
 -- then requests are refused
 abbrev pub is_short : MemoryState → (taken waiting : ℕ) → Bool

@@ -1,5 +1,8 @@
 //! The thread that looks at what memory the process takes, and refuses requests while it is too much, and spans while
 //! it is more still.
+ghost use Rattle.std.specs.Prelude.{◌≡◌};
+ghost use Rattle.collector_serve.specs.Memory.{pause_before};
+
 use crate::charge::Charge;
 use crate::memory_rule::MemoryRule;
 use std::alloc::Global;
@@ -62,7 +65,9 @@ fn watch<F: Read + Seek + Drop, R: Wait + Clock>(rt: &R, limit: u64, account: F,
 
 /// The time until the next look: the shorter the less may still be taken. A process doesn't grow by more than
 /// two mebibytes in a millisecond.
-fn pause_before(limit: u64, taken: u64) -> u64 {
+fn pause_before(limit: u64, taken: u64) -> u64
+    ensures { result ≡ pause_before limit taken }
+{
     let left = limit.saturating_sub(taken) / MEBIBYTE / 2;
     left.max(LEAST_PAUSE).min(MOST_PAUSE)
 }
