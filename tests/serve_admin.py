@@ -352,9 +352,9 @@ def odd_questions(start):
         want(f"HEAD {target}", asked(admin, get(target, "HEAD"), False), asked(admin, get(target))[:2] + ("",))
     want("HEAD /metrics", asked(admin, get("/metrics", "HEAD"), False)[0], 200)
     began = time.monotonic()
-    for _ in range(10):
+    for _ in range(20):
         want("health", asked(admin, get("/healthz"))[0], 200)
-    at_most("ten answers, each with the end of its connection", 5, began)
+    at_most("twenty answers, each with the end of its connection", 5, began)
     silent = Client(admin)
     began = time.monotonic()
     want("health behind a silent one", asked(admin, get("/healthz"))[0], 200)

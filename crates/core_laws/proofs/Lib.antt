@@ -5,5 +5,6 @@ pub mod Sums
 pub mod Out
 pub mod Only
 pub mod Against
+pub mod Percentages
 pub mod Bounds
 mod Rows

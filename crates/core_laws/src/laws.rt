@@ -3,6 +3,7 @@
 ghost use Rattle.world_theory.specs.Headline.{OfEachRun};
 ghost use Rattle.core_laws.specs.Sums.{AddsUp, AddsUpClosed};
 ghost use Rattle.core_laws.specs.Sampled.{SampledComesOut, LateFollowsOut, OnlySampledComesOut, NoneAgainst, AlwaysSampleSamplesAll};
+ghost use Rattle.core_laws.specs.Percentages.{HundredPercentChoosesAll};
 ghost use Rattle.core_laws.specs.Bounds.{WaitingTracesAreFew, WaitingBytesAreFew};
 
 /// As many spans were received as wait, were handed over, and are counted under the seven reasons. Once the run is
@@ -26,6 +27,11 @@ pub fn sampled_comes_out()
 pub fn always_sample_drops_none()
     ensures none { OfEachRun NoneAgainst }
     ensures always { AlwaysSampleSamplesAll }
+{}
+
+/// A `probabilistic` policy of a hundred percent chooses each trace, whatever its id and the salt.
+pub fn hundred_percent_chooses_all()
+    ensures { HundredPercentChoosesAll }
 {}
 
 /// With a limit on traces at most so many wait in a shard. With a maximum size of traces too, the spans that wait in a
