@@ -208,6 +208,14 @@ def by_hand(page, collector):
     check("no error in the console by hand", page.console(), [])
 
 
+def remembered(page, collector):
+    """A page that is opened later shows what came before: each step of ten seconds that the collector has kept."""
+    page.open(collector)
+    check("what came before is there at once", bool(page.until("latest() && page.samples.filter(it => it.brief).length >= 2", 5)))
+    check("its rates are those of the load", page.js("return columns().filter(it => it.received > 0).length >= 2"))
+    check("no error in the console at once", page.console(), [])
+
+
 def refused(page, collector):
     """The policy that the collector sends holds: nothing foreign runs, and nothing is asked of anybody else."""
     page.open(collector, 3)
@@ -302,7 +310,7 @@ def main():
     loading = threading.Thread(target=load, args=(f"127.0.0.1:{collector.listen}", 900, 60.0, lambda: not over.is_set()))
     loading.start()
     try:
-        for tried in (balance, by_hand, refused, looks, long_open):
+        for tried in (balance, by_hand, remembered, refused, looks, long_open):
             tried(page, collector)
         warned(page, small)
         restarted(page, collector)
