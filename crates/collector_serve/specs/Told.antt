@@ -7,8 +7,8 @@ use Rattle.metrics_text.specs.declared.metrics.Metrics.{Metrics}
 use Rattle.metrics_text.specs.declared.metrics.ShardNumbers.{ShardNumbers}
 use Rattle.metrics_text.specs.declared.metrics.PolicyNumbers.{PolicyNumbers}
 use Rattle.status_json.specs.Text.{status_text}
-use Rattle.status_json.specs.declared.status.Status.{Status}
-use Rattle.status_json.specs.declared.status.HistoryRow.{HistoryRow}
+use Rattle.status_json.specs.declared.numbers.Status.{Status}
+use Rattle.status_json.specs.declared.numbers.HistoryRow.{HistoryRow}
 
 -- the text of some numbers, and of some counts with those of some moments before; which these are, no clause says
 abbrev pub IsToldAt : Route → (text : List ℕ) → Type 0
