@@ -1,6 +1,5 @@
 //! The text.
-ghost use Rattle.std.specs.Prelude.{◌≡◌, ◌++◌, codes, decimal, map, string_bytes, IfOk, OnOk};
-ghost use Rattle.std.specs.List.{flat_map};
+ghost use Rattle.std.specs.Prelude.{◌≡◌, ◌++◌, decimal, map, string_bytes, IfOk, OnOk};
 ghost use Rattle.status_json.specs.Json.{behind_commas, joined};
 ghost use Rattle.status_json.specs.Text.{dropped_of, history_of, row_of, spans_of, status_text};
 
