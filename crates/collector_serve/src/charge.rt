@@ -1,5 +1,5 @@
 //! What a collector shares with those in charge of it.
-ghost use Rattle.std.specs.Prelude.{◌≡◌, ∥◌∥₁, IfSome};
+ghost use Rattle.std.specs.Prelude.{◌≡◌, IfSome};
 
 use crate::admin_door::end_admin;
 use crate::history::History;
