@@ -402,8 +402,11 @@ SETTINGS = {
             ('policy = "all", percent = 1', TAKEN), ('policy = "all", percent = 100', TAKEN), ('policy = "other", percent = 1', TAKEN), ('policy = "all", percent = 0', OUT_OF_RANGE),
             ('policy = "all", percent = 101', OUT_OF_RANGE), ('policy = "all", percent = 1.0', WRONG_TYPE), ('policy = "all"', MISSING_KEY), ("percent = 1", MISSING_KEY),
             ("policy = 1, percent = 1", WRONG_TYPE), ('policy = "all", percent = 1, share = 1', UNKNOWN_KEY))),
-        ('max_total_spans_per_second = 1, policy_order = ["b", "a"], composite_sub_policy = [{ name = "b", type = "always_sample" }, { name = "a", type = "always_sample" }]', TAKEN),
-        ('max_total_spans_per_second = 1, policy_order = ["a", "b"], composite_sub_policy = [{ name = "b", type = "always_sample" }, { name = "a", type = "always_sample" }]', OUT_OF_RANGE),
+        *((f'max_total_spans_per_second = 1, policy_order = {order}, composite_sub_policy = [{{ name = "b", type = "always_sample" }}, {{ name = "a", type = "always_sample" }}]', fault) for order, fault in (
+            ('["b", "a"]', TAKEN), ('["a", "b"]', TAKEN), ('["a", "a"]', OUT_OF_RANGE), ('["b", "a", "b"]', OUT_OF_RANGE), ('["a"]', OUT_OF_RANGE), ('["a", "c"]', OUT_OF_RANGE), ('["a", "b", "c"]', OUT_OF_RANGE),
+            ("[]", OUT_OF_RANGE))),
+        # Where two parts have one name, an order that is theirs is no fault of its own.
+        (f'max_total_spans_per_second = 1, policy_order = ["all", "all"], composite_sub_policy = [{ALL}, {ALL}]', SAME_NAME),
     ],
 }
 

@@ -223,18 +223,29 @@ ROWS = [
         "policies[0].composite.policy_order[1]: a text is wanted (fault 4)",
         "policies[0].composite.rate_allocation[0]: a table of policy, a text, and percent, from 1 to 100, is wanted (fault 5)",
         "policies[0].composite.rate_allocation[1]: a table of policy, a text, and percent, from 1 to 100, is wanted (fault 4)",
-        "policies[0].composite.policy_order: not the names of composite_sub_policy, as they stand there (fault 5)",
+        "policies[0].composite.policy_order: not the names of composite_sub_policy, each once (fault 5)",
     ]),
     ("an order that only follows", 'policies = [{ name = "a", type = "composite", composite = { max_total_spans_per_second = 1, policy_order = ["x", 1, "z", "u"], composite_sub_policy = ['
      '{ name = "x", type = "always_sample" }, { name = "y", type = "always_sample" }, { type = "always_sample" }, 3] } }]', [
         "policies[0].composite.policy_order[1]: a text is wanted (fault 4)",
-        f"policies[0].composite.policy_order: not the names of composite_sub_policy, as they stand there{FOLLOWS} (fault 5)",
+        f"policies[0].composite.policy_order: not the names of composite_sub_policy, each once{FOLLOWS} (fault 5)",
         "policies[0].composite.composite_sub_policy[2].name: missing (fault 3)",
         "policies[0].composite.composite_sub_policy[3]: a table is wanted (fault 4)",
     ]),
     ("an order that is another one, beside a part without a name", 'policies = [{ name = "a", type = "composite", composite = { max_total_spans_per_second = 1, policy_order = ["y", "z"], composite_sub_policy = ['
      '{ name = "x", type = "always_sample" }, { type = "always_sample" }] } }]', [
-        "policies[0].composite.policy_order: not the names of composite_sub_policy, as they stand there (fault 5)",
+        "policies[0].composite.policy_order: not the names of composite_sub_policy, each once (fault 5)",
+        "policies[0].composite.composite_sub_policy[1].name: missing (fault 3)",
+    ]),
+    ("orders that name a part twice, leave one out, or name no part", 'policies = [' + ", ".join(f'{{ name = "{name}", type = "composite", composite = {{ max_total_spans_per_second = 1, policy_order = {order}, composite_sub_policy = ['
+     '{ name = "x", type = "always_sample" }, { name = "y", type = "always_sample" }] } }' for name, order in (("a", '["y", "y"]'), ("b", '["y"]'), ("c", '["y", "z"]'), ("d", '["y", "x"]'))) + "]", [
+        "policies[0].composite.policy_order: not the names of composite_sub_policy, each once (fault 5)",
+        "policies[1].composite.policy_order: not the names of composite_sub_policy, each once (fault 5)",
+        "policies[2].composite.policy_order: not the names of composite_sub_policy, each once (fault 5)",
+    ]),
+    ("an order that names a part twice, beside a part without a name", 'policies = [{ name = "a", type = "composite", composite = { max_total_spans_per_second = 1, policy_order = ["x", "x"], composite_sub_policy = ['
+     '{ name = "x", type = "always_sample" }, { type = "always_sample" }] } }]', [
+        "policies[0].composite.policy_order: not the names of composite_sub_policy, each once (fault 5)",
         "policies[0].composite.composite_sub_policy[1].name: missing (fault 3)",
     ]),
     ("two of one name", f"lanes = 0\npolicies = [{ALL}, {ALL}]", ["lanes: 0 is not from 1 to 64 (fault 5)", 'policies: two policies of one list have the same name: "all" in policies (fault 7.4)']),

@@ -303,10 +303,10 @@ def policies_of_policies(folder):
         one_run(folder, f"policies of policies {number}", kinds, [(one_span, None) for one_span in spans], is_kept)
 
 
-def composite(total, *kinds, **percents):
-    """A composite of parts named a, b and c, with percentages by their names."""
+def composite(total, *kinds, asked="abc", **percents):
+    """A composite of parts named a, b and c, which are asked in this order, with percentages by their names."""
     tables = ", ".join(policy(name, *of) for name, of in zip("abc", kinds))
-    order = ", ".join(f'"{name}"' for name, _ in zip("abc", kinds))
+    order = ", ".join(f'"{name}"' for name in asked[:len(kinds)])
     shares = ", ".join(f'{{ policy = "{name}", percent = {percent} }}' for name, percent in percents.items())
     return "composite", f"max_total_spans_per_second = {total}, policy_order = [{order}], composite_sub_policy = [{tables}], rate_allocation = [{shares}]"
 
@@ -327,6 +327,12 @@ def composites(folder):
         ([composite(9, joined("drop", ALWAYS))], False), ([composite(9, joined("drop", ALWAYS), ALWAYS)], True), ([composite(9, composite(1, ALWAYS), ALWAYS)], True), ([composite(4, composite(2, ALWAYS))], True),
         ([joined("not", composite(1, ALWAYS))], True), ([joined("not", composite(2, ALWAYS))], False), ([joined("and", ALWAYS, composite(2, ALWAYS))], True), ([joined("drop", composite(2, ALWAYS)), ALWAYS], False),
         ([joined("drop", composite(1, ALWAYS)), ALWAYS], True), ([in_favour, composite(1, ALWAYS)], False),
+        # The part that is asked first decides, by the share of its name, wherever it stands.
+        ([composite(100, ALWAYS, ALWAYS, a=1)], False), ([composite(100, ALWAYS, ALWAYS, asked="ba", a=1)], True), ([composite(100, ALWAYS, ALWAYS, asked="ba", b=1)], False),
+        ([composite(100, ALWAYS, ALWAYS, b=1)], True), ([composite(100, ALWAYS, never, asked="ba", a=1)], False), ([composite(100, ALWAYS, never, asked="ba", b=1)], True),
+        ([composite(100, ALWAYS, ALWAYS, never, asked="cab", a=1)], False), ([composite(100, ALWAYS, ALWAYS, never, asked="cba", a=1)], True),
+        ([composite(100, never, ALWAYS, ALWAYS, asked="acb", c=1)], False), ([composite(100, never, ALWAYS, ALWAYS, asked="acb", b=1)], True),
+        ([composite(5, ALWAYS, never, never, asked="cba")], False), ([composite(6, ALWAYS, never, never, asked="cba")], True),
     ]  # fmt: skip
     for number, (kinds, is_kept) in enumerate(rows):
         spans = [(span(n, attributes=[attribute("env", stringValue="dev")]), None) for n in (1, 2)]

@@ -125,10 +125,10 @@ def made_of(kind, *parts):
     return kind, f"{kind}_sub_policy = " + (tables[0] if kind == "not" else f"[{', '.join(tables)}]")
 
 
-def composite(total, percents, *parts):
-    """A composite in the order of its parts; the first ones have these percentages."""
+def composite(total, percents, *parts, asked=None):
+    """A composite whose parts are asked in this order, or else as they stand; the first ones have these percentages."""
     names = [f"test-composite-policy-{number}" for number in range(1, len(parts) + 1)]
-    order = ", ".join(f'"{name}"' for name in names)
+    order = ", ".join(f'"{names[number - 1]}"' for number in asked or range(1, len(parts) + 1))
     tables = ", ".join(policy(name, *part) for name, part in zip(names, parts))
     shares = ", ".join(f'{{ policy = "{name}", percent = {percent} }}' for name, percent in zip(names, percents))
     return "composite", f"max_total_spans_per_second = {total}, policy_order = [{order}], composite_sub_policy = [{tables}], rate_allocation = [{shares}]"
@@ -245,8 +245,13 @@ ROWS = [
     ("the parts of a composite", [FROM_FIFTY, TWO_VALUES, ALWAYS], EVERY),
     ("the composite", [composite(1000, (50, 25), FROM_FIFTY, TWO_VALUES, ALWAYS)], EVERY),
     ("the composite of 10 spans", [composite(10, (50, 25), FROM_FIFTY, TWO_VALUES, ALWAYS)], {1, 2, 4, 5, 10}),
+    # All first, with 3 spans: 1 and 2, and no other part is asked. With the values first, 10 is one span too many beside 5.
+    ("the composite of 10 spans from its last part on", [composite(10, (50, 25), FROM_FIFTY, TWO_VALUES, ALWAYS, asked=(3, 2, 1))], {1, 2}),
+    ("the composite of 10 spans from its second part on", [composite(10, (50, 25), FROM_FIFTY, TWO_VALUES, ALWAYS, asked=(2, 1, 3))], {1, 2, 4, 5}),
     # Errors have 2 spans a second, and so do the others: 1 and 3 of one span each.
     ("a composite of errors and all", [composite(4, (50,), ERROR, ALWAYS)], {1, 2, 3}),
+    # With all first, 2 is one span too many beside 1.
+    ("a composite of all before errors", [composite(4, (50,), ERROR, ALWAYS, asked=(2, 1))], {1, 3}),
     ("errors beside a limit", [ERROR, rate(3)], {1, 2, 10}),
     ("errors beside a limit of bytes", [ERROR, bytes_of(0, 392)], {1, 2, 10}),
     ("not of a limit of bytes", [made_of("not", bytes_of(1024))], {9}),

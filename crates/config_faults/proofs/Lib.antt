@@ -1,3 +1,3 @@
 pub mod Least
-mod Orders
+pub mod Orders
 pub mod Rows

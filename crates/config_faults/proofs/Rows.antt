@@ -1,7 +1,7 @@
 -- The numbers of a configuration's settings, computed on the definitions: each key's range, and what lies just outside.
 -- No clause needs them: they show what the words of `Faults` say, which code and contracts follow. The table below
 -- repeats no definition.
-use Rattle.std.specs.Prelude.{◌≡◌, ℕ, ℤ, pos, negsuc, Bool, true, false, List, [], ◌∷◌, map, codes, Option, Some, None, refl}
+use Rattle.std.specs.Prelude.{◌≡◌, ℕ, ℤ, pos, negsuc, true, false, List, [], ◌∷◌, map, codes, Option, Some, None, refl}
 use lib.Ieee.{to_unsigned, of_int, mul, div, eq}
 use Rattle.std.specs.Float.{Float, nan, inf, fin, round_with}
 use Rattle.toml.specs.Data.{Data, string, integer, boolean, array, table, Items, no_items, item, Members, no_members, member}
@@ -274,15 +274,32 @@ whole_percentages = refl
 
 -- ---- the names of the parts of a composite
 
--- the names of two parts: in their order, in the other, and of one alone
 abbrev named : List ℕ → Data
 named name = table (member (codes "name") (string name) no_members)
 
-abbrev two_parts : Items
-two_parts = item (named (codes "a")) (item (named (codes "b")) no_items)
+abbrev listed : List Data → Items
+listed [] = no_items
+listed (first ∷ rest) = item first (listed rest)
 
-orders : map (λ (order : Items). is_order order two_parts) (item (string (codes "a")) (item (string (codes "b")) no_items) ∷ item (string (codes "b")) (item (string (codes "a")) no_items) ∷ item (string (codes "a")) no_items ∷ no_items ∷ []) ≡ true ∷ false ∷ false ∷ false ∷ []
+-- a text for each of these letters
+abbrev order_of : List ℕ → Items
+order_of letters = listed (map (λ (letter : ℕ). string (letter ∷ [])) letters)
+
+abbrev three_parts : Items
+three_parts = listed (named (codes "a") ∷ named (codes "b") ∷ named (codes "c") ∷ [])
+
+-- the names of three parts: in their order, and in others
+orders : map (λ (letters : List ℕ). is_order (order_of letters) three_parts) (codes "abc" ∷ codes "cab" ∷ codes "bac" ∷ []) ≡ true ∷ true ∷ true ∷ []
 orders = refl
+
+-- a name twice in place of another, one twice beside all, one left out, one that no part has, in place of another and
+-- beside all, and none
+no_orders : map (λ (letters : List ℕ). is_order (order_of letters) three_parts) (codes "aba" ∷ codes "abca" ∷ codes "ca" ∷ codes "abd" ∷ codes "abcd" ∷ [] ∷ []) ≡ false ∷ false ∷ false ∷ false ∷ false ∷ false ∷ []
+no_orders = refl
+
+-- where two parts have the same name, which is a fault of its own, the order of the parts as they stand is one
+doubled_parts : is_order (order_of (codes "aa")) (listed (named (codes "a") ∷ named (codes "a") ∷ [])) ∷ is_order no_items no_items ∷ [] ≡ true ∷ true ∷ []
+doubled_parts = refl
 
 -- the form of an address
 an_address : is_endpoint (codes "http://h/") ≡ true

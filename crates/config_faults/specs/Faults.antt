@@ -243,7 +243,7 @@ policy_table_fault members nested =
     (required type_fault (get_member (codes "type") members)))
     (typed_fault_where (type_at members) members nested)
 
--- where a composite has an order it is wanted to name the parts, as they stand there
+-- where a composite has an order it is wanted to name the parts, each once
 abbrev pub order_fault : Join → Members → Option ConfigFault
 order_fault join_is.FirstMatch members = if is_ordered (get_member (codes "policy_order") members) (get_member (codes "composite_sub_policy") members) then None else Some OutOfRange
 order_fault _ _ = None

@@ -10,11 +10,10 @@ use crate::keys::member;
 use policy_tree::Join;
 use toml::{Table, Value};
 
-/// The fault that a composite's order doesn't name its parts as they stand there.
+/// The fault that a composite's order isn't the names of its parts, each once.
 pub fn order_fault(join: Join, settings: &Table) -> Option<ConfigFault>
     ensures { result ≡ faults.order_fault join (table_view settings.now) }
 {
-    // The processor's code goes by the order of the parts, its README by `policy_order`: both have to agree (D-037).
     match join {
         Join::FirstMatch if !is_ordered(settings) => Some(ConfigFault::OutOfRange),
         _ => None,
@@ -33,17 +32,58 @@ fn is_ordered(settings: &Table) -> bool
     }
 }
 
+#[tactic(auto, using(crate::proofs::Orders::counted))]
 fn is_order(order: &[Value], parts: &[Value]) -> bool
     ensures { result ≡ names.is_order (items_view order.now) (items_view parts.now) }
 {
-    let mut index = 0;
-    for part in parts {
-        match order.get(index) {
-            Some(text) if is_name(text, part) => index += 1,
-            _ => return false,
+    order.len() == parts.len() && are_parts(order, parts) && are_named(order, parts)
+}
+
+/// Whether each of these texts is the name of one of these policy tables.
+fn are_parts(order: &[Value], parts: &[Value]) -> bool
+    ensures { result ≡ names.are_parts (items_view order.now) (items_view parts.now) }
+{
+    for text in order {
+        if !is_part(text, parts) {
+            return false;
         }
     }
-    index == order.len()
+    true
+}
+
+fn is_part(text: &Value, parts: &[Value]) -> bool
+    ensures { result ≡ names.is_part (view text.now) (items_view parts.now) }
+{
+    for part in parts {
+        if is_name(text, part) {
+            return true;
+        }
+    }
+    false
+}
+
+/// Whether each of these policy tables has one of these texts as its name.
+fn are_named(order: &[Value], parts: &[Value]) -> bool
+    ensures { result ≡ names.are_named (items_view order.now) (items_view parts.now) }
+{
+    for part in parts {
+        if !is_named(order, part) {
+            return false;
+        }
+    }
+    true
+}
+
+/// Whether one of these texts is the name of a policy table.
+pub fn is_named(order: &[Value], part: &Value) -> bool
+    ensures { result ≡ names.is_named (items_view order.now) (view part.now) }
+{
+    for text in order {
+        if is_name(text, part) {
+            return true;
+        }
+    }
+    false
 }
 
 fn is_name(text: &Value, part: &Value) -> bool

@@ -26,7 +26,7 @@ mod settings;
 mod settings_faults;
 mod tables;
 
-pub use composites::{is_text_at, order_fault};
+pub use composites::{is_named, is_text_at, order_fault};
 pub use fault::ConfigFault;
 pub use fault_walk::{table_fault, twice_fault};
 pub use joins::{join_at, join_type, sub_key};

@@ -201,12 +201,12 @@ pub fn item_text(
     }
 }
 
-/// The text that the order of a composite with these settings is another one than that of its parts.
+/// The text that the order of a composite with these settings isn't the names of its parts, each once.
 pub fn order_text(alloc: Global, place: &str, settings: &Table) -> Result<String, AllocError> {
     // Told all the same: `serve` refuses the text by the least fault, which may be this one (D-222).
     let follows = if order_follows(settings) { FOLLOWS } else { "" };
     format!(in alloc;
-        "{place}.policy_order: not the names of composite_sub_policy, as they stand there{follows}"
+        "{place}.policy_order: not the names of composite_sub_policy, each once{follows}"
     )
 }
 

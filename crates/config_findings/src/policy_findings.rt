@@ -166,7 +166,7 @@ fn add_sub_value(
     }
 }
 
-/// Adds the fault that a composite's order doesn't name its parts as they stand there.
+/// Adds the fault that a composite's order isn't the names of its parts, each once.
 fn add_order(
     alloc: Global,
     place: &str,

@@ -1,6 +1,6 @@
 -- Worked rows: where faults of policies and conditions stand, and orders that follow. No clause needs them: they show what `Walk` and
 -- `Orders` say, which code and contracts follow.
-use Rattle.std.proofs.Common.{◌≡◌, ℕ, pos, true, false, List, [], ◌∷◌, map, codes, Option, Some, None, refl}
+use Rattle.std.proofs.Common.{◌≡◌, ℕ, pos, Bool, true, false, List, [], ◌∷◌, map, codes, Option, Some, None, refl}
 use Rattle.std.specs.Fmt.{digits}
 use Rattle.toml.specs.Data.{Data, string, integer, array, table, Items, no_items, item, Members, no_members, member}
 use Rattle.policy_tree.specs.declared.fault.PolicyFault.{PolicyFault}
@@ -80,8 +80,6 @@ first_of_two : map doubled_name ((item (named (codes "a") (codes "and") no_membe
     ≡ Some (codes "a") ∷ Some [] ∷ None ∷ []
 first_of_two = refl
 
--- an order beside a part without a name: a text and a part that has another name, a number and a part, as many as parts,
--- one fewer, one more
 abbrev order : List Data → Items
 order [] = no_items
 order (first ∷ rest) = item first (order rest)
@@ -89,7 +87,18 @@ order (first ∷ rest) = item first (order rest)
 abbrev parts : Data
 parts = list (named (codes "a") (codes "and") no_members) nameless
 
-orders : map (λ (texts : List Data). order_follows (Some (array (order texts))) (Some parts))
-    ((string (codes "a") ∷ string (codes "b") ∷ []) ∷ (string (codes "b") ∷ string (codes "b") ∷ []) ∷ (integer (pos 1) ∷ string (codes "b") ∷ []) ∷ (string (codes "a") ∷ []) ∷ (string (codes "a") ∷ string (codes "b") ∷ string (codes "c") ∷ []) ∷ [])
-    ≡ true ∷ false ∷ true ∷ false ∷ false ∷ []
-orders = refl
+abbrev follows : List (List Data) → List Bool
+follows orders = map (λ (texts : List Data). order_follows (Some (array (order texts))) (Some parts)) orders
+
+-- an order beside a part with a name and one without: the name and a text, in either order, and a number in place of
+-- either
+following : follows
+    ((string (codes "a") ∷ string (codes "b") ∷ []) ∷ (string (codes "b") ∷ string (codes "a") ∷ []) ∷ (integer (pos 1) ∷ string (codes "b") ∷ []) ∷ (integer (pos 1) ∷ string (codes "a") ∷ []) ∷ [])
+    ≡ true ∷ true ∷ true ∷ true ∷ []
+following = refl
+
+-- two texts that aren't the name, the name twice, another text twice, one item fewer, one more, and none
+not_following : follows
+    ((string (codes "b") ∷ string (codes "c") ∷ []) ∷ (string (codes "a") ∷ string (codes "a") ∷ []) ∷ (string (codes "b") ∷ string (codes "b") ∷ []) ∷ (string (codes "a") ∷ []) ∷ (string (codes "a") ∷ string (codes "b") ∷ string (codes "c") ∷ []) ∷ [] ∷ [])
+    ≡ false ∷ false ∷ false ∷ false ∷ false ∷ false ∷ []
+not_following = refl

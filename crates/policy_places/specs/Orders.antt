@@ -1,23 +1,47 @@
 -- Whether the fault that an order of a composite doesn't name its parts follows from other faults.
-use Rattle.std.specs.Prelude.{Bool, true, false, ◌&&◌, List, ℕ, codes, Option, Some}
-use Rattle.std.specs.Str.{bytes_eq}
-use Rattle.toml.specs.Data.{Data, string, array, table, Items, no_items, item, get_member}
+use Rattle.std.specs.Prelude.{ℕ, ◌+◌, ◌==◌, nat_le, Bool, true, false, not, ◌&&◌, ◌||◌, if◌then◌else◌, List, Option, Some, is_some}
+use Rattle.toml.specs.Data.{Data, string, array, Items, no_items, item}
+use Rattle.config_faults.specs.Composites.{is_text, is_named, count_items}
+use Rattle.policy_places.specs.Places.{name_of}
 
--- a text is the one that stands at `name`, or none stands there
-abbrev pub may_be_text : List ℕ → Option Data → Bool
-may_be_text text (Some (string found)) = bytes_eq text found
-may_be_text text _ = true
+-- one of these items is this text
+abbrev pub is_among : (text : List ℕ) → Items → Bool
+is_among text no_items = false
+is_among text (item value rest) = is_text text (Some value) || is_among text rest
 
--- a text is the name of a policy table, or one of the two has a fault of its own
-abbrev pub may_be_name : Data → Data → Bool
-may_be_name (string text) (table members) = may_be_text text (get_member (codes "name") members)
-may_be_name _ _ = true
+-- an item is a text that stands further on too
+abbrev pub is_doubled : Data → (rest : Items) → Bool
+is_doubled (string text) rest = is_among text rest
+is_doubled _ rest = false
 
--- as many texts as policy tables, each so
+-- a text stands twice among these items
+abbrev pub has_doubled : Items → Bool
+has_doubled no_items = false
+has_doubled (item value rest) = is_doubled value rest || has_doubled rest
+
+-- an item is no text
+abbrev pub is_other : Data → Bool
+is_other (string text) = false
+is_other _ = true
+
+-- how many items are no texts
+abbrev pub count_other : Items → ℕ
+count_other no_items = 0
+count_other (item value rest) = (if is_other value then 1 else 0) + count_other rest
+
+-- a policy table has a name, which is none of these texts
+abbrev pub is_left_out : (order : Items) → (part : Data) → Bool
+is_left_out order part = is_some (name_of part) && not (is_named order part)
+
+-- how many of these policy tables have such a name
+abbrev pub count_left_out : (order parts : Items) → ℕ
+count_left_out order no_items = 0
+count_left_out order (item part parts) = (if is_left_out order part then 1 else 0) + count_left_out order parts
+
+-- there are as many items as policy tables, no text twice, and an item that is no text for each name that is left out: as
+-- many texts are then left for the tables without a name
 abbrev pub may_be_order : (order parts : Items) → Bool
-may_be_order no_items no_items = true
-may_be_order (item text order) (item part parts) = may_be_name text part && may_be_order order parts
-may_be_order _ _ = false
+may_be_order order parts = (count_items order == count_items parts) && (not (has_doubled order) && nat_le (count_left_out order parts) (count_other order))
 
 -- it is for other faults alone that an order doesn't name the parts
 abbrev pub order_follows : (order parts : Option Data) → Bool

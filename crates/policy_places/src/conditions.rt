@@ -45,7 +45,8 @@ fn text_among(
     Ok(None)
 }
 
-fn is_text(value: &Value, text: &str) -> bool
+/// Whether a value is this text.
+pub fn is_text(value: &Value, text: &str) -> bool
     ensures { result ≡ is_text text.now (Some (view value.now)) }
 {
     match value {

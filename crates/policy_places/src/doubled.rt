@@ -20,7 +20,7 @@ pub fn doubled_name(items: &[Value]) -> Option<&str>
 }
 
 /// The text that stands at `name` of a policy table.
-fn name_of(value: &Value) -> Option<&str>
+pub fn name_of(value: &Value) -> Option<&str>
     ensures { option_map (λ name. name.now) result ≡ spec.name_of (view value.now) }
 {
     match value {

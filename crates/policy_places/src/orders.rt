@@ -4,11 +4,13 @@ ghost use Rattle.toml.specs.Data.{get_member};
 ghost use Rattle.toml.specs.View.{view, table_view, items_view};
 ghost use Rattle.policy_places.specs.Orders as spec;
 
-use config_faults::{is_text_at, member};
+use crate::conditions::is_text;
+use crate::doubled::name_of;
+use config_faults::{is_named, member};
 use toml::{Table, Value};
 
-/// Whether it is for other faults alone that the order of a composite with these settings doesn't name its parts: there
-/// are as many texts as parts, and each text names its part, or one of the two has a fault of its own.
+/// Whether it is for other faults alone that the order of a composite with these settings doesn't name its parts, each
+/// once: names for the parts without one, and texts for the items that are none, would make it do so.
 pub fn order_follows(settings: &Table) -> bool
     ensures { result ≡ spec.order_follows (get_member (codes "policy_order") (table_view settings.now)) (get_member (codes "composite_sub_policy") (table_view settings.now)) }
 {
@@ -21,30 +23,76 @@ pub fn order_follows(settings: &Table) -> bool
     }
 }
 
+#[tactic(auto, using(config_faults::proofs::Orders::counted))]
 fn may_be_order(order: &[Value], parts: &[Value]) -> bool
     ensures { result ≡ spec.may_be_order (items_view order.now) (items_view parts.now) }
 {
-    match order {
-        [] => match parts {
-            [] => true,
-            [_, ..] => false,
-        },
-        [text, texts @ ..] => match parts {
-            [] => false,
-            [part, others @ ..] => may_be_name(text, part) && may_be_order(texts, others),
-        },
+    order.len() == parts.len()
+        && !has_doubled(order)
+        && count_left_out(order, parts) <= count_other(order)
+}
+
+/// Whether a text stands twice among these items.
+fn has_doubled(items: &[Value]) -> bool
+    ensures { result ≡ spec.has_doubled (items_view items.now) }
+{
+    let [first, rest @ ..] = items else {
+        return false;
+    };
+    match first {
+        Value::String(text) if is_among(rest, text.as_str()) => true,
+        _ => has_doubled(rest),
     }
 }
 
-/// Whether a text is the name of a part, or one of the two has a fault of its own.
-fn may_be_name(text: &Value, part: &Value) -> bool
-    ensures { result ≡ spec.may_be_name (view text.now) (view part.now) }
+fn is_among(items: &[Value], text: &str) -> bool
+    ensures { result ≡ spec.is_among text.now (items_view items.now) }
 {
-    match (text, part) {
-        (Value::String(text), Value::Table(table)) => match member(table, "name") {
-            Some(Value::String(_)) => is_text_at(text.as_str(), table, "name"),
-            _ => true,
-        },
-        _ => true,
+    for item in items {
+        if is_text(item, text) {
+            return true;
+        }
+    }
+    false
+}
+
+/// How many items are no texts.
+fn count_other(items: &[Value]) -> usize
+    ensures { result ≡ spec.count_other (items_view items.now) }
+{
+    let mut count = 0;
+    for item in items {
+        if is_other(item) {
+            count += 1;
+        }
+    }
+    count
+}
+
+fn is_other(item: &Value) -> bool
+    ensures { result ≡ spec.is_other (view item.now) }
+{
+    !matches!(item, Value::String(_))
+}
+
+/// How many of these policy tables have a name that is none of these texts.
+fn count_left_out(order: &[Value], parts: &[Value]) -> usize
+    ensures { result ≡ spec.count_left_out (items_view order.now) (items_view parts.now) }
+{
+    let mut count = 0;
+    for part in parts {
+        if is_left_out(order, part) {
+            count += 1;
+        }
+    }
+    count
+}
+
+fn is_left_out(order: &[Value], part: &Value) -> bool
+    ensures { result ≡ spec.is_left_out (items_view order.now) (view part.now) }
+{
+    match name_of(part) {
+        Some(_) => !is_named(order, part),
+        None => false,
     }
 }

@@ -6,5 +6,7 @@ pub mod Whole
 mod Rows
 pub mod Settings
 mod SettingKeys
+mod LookUps
+mod Orders
 mod PolicyKeys
 pub mod Shares

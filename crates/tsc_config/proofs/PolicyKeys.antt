@@ -1,10 +1,6 @@
 -- Each policy has what stands at the keys of its table.
 -- For `policies_are_of_their_keys`.
-use Rattle.std.proofs.Common.{◌≡◌, ℕ, ◌+◌, pos, negsuc, zero, suc, Bool, true, false, ◌⊎◌, inl, inr, refl, ap, sym, subst, ◌∙◌, arith, codes, List, [], ◌∷◌, length, slice_get, Option, None, Some, if◌then◌else◌, Ordering, Less, Equal, Greater}
-use Rattle.std.proofs.lemmas.Map.Text.{is_eq-slice_cmp}
-use Rattle.std.specs.Str.{bytes_eq}
-use Rattle.std.specs.Ordering.{nat_cmp, is_eq, match_ordering}
-use Rattle.std.specs.Cmp.Lexicographic.{slice_cmp}
+use Rattle.std.proofs.Common.{◌≡◌, ℕ, ◌+◌, pos, negsuc, zero, suc, Bool, true, false, ◌⊎◌, inl, inr, refl, ap, sym, subst, ◌∙◌, arith, codes, List, [], ◌∷◌, map, length, slice_get, Option, None, Some, if◌then◌else◌, Ordering, Less, Equal, Greater}
 use Rattle.toml.specs.Data.{Data, string, array, table, Items, no_items, item, Members, no_members, member, get_member, get_item}
 use Rattle.policy_tree.specs.declared.limit.Limit.TheVariants.{Spans, Bytes}
 use Rattle.policy_tree.specs.declared.policy.Policy.{Policy}
@@ -17,7 +13,9 @@ use Rattle.policy_tree.specs.declared.policy.Leaf.TheVariants as leaf_is
 use Rattle.policy_tree.specs.declared.policy.PolicyKind.TheViews.{out-PolicyKind, roll-PolicyKind, out-roll-PolicyKind}
 use Rattle.policy_tree.specs.declared.policy.Wanted.{Wanted}
 use Rattle.tsc_config.proofs.SettingKeys.{type_is_named, text_keys, natural_keys, two_naturals, whole_keys, truth_keys, required_truth, salt_keys, percentage_keys, texts_keys, optional_texts, mode_keys, codes_keys, wanted_keys, bucket_keys}
-use Rattle.tsc_config.proofs.Shares.{turned, unshared_are}
+use Rattle.tsc_config.proofs.Orders.{as_many, ordered_are, ordered_sound, ordered_as_many}
+use Rattle.tsc_config.proofs.LookUps.{looked, parts_found, parts_fault_found, sub_found, sub_fault_found}
+use Rattle.tsc_config.proofs.Shares.{unshared_are, as_many_shares}
 use Rattle.tsc_config.proofs.Settings.{neither, switched, table_parts, read_as}
 use Rattle.policy_tree.specs.declared.policy.Join.{Join}
 use Rattle.policy_tree.specs.declared.policy.Join.TheVariants as join_is
@@ -25,8 +23,9 @@ use Rattle.config_faults.specs.PolicyTypes.{type_name}
 use Rattle.config_faults.specs.Keys.{type_named, type_found, type_at, join_type, join_name, sub_key, join_of, join_at}
 use Rattle.config_faults.specs.Composites.{is_ordered}
 use Rattle.config_faults.specs.Faults.{optional, required, order_fault, allocation_fault, unknown_fault, natural_fault, text_fault, error_mode_fault, named_fault, array_fault, type_fault, percentage_fault, truth_fault, whole_fault, code_fault, rows_fault, settings_fault, settings_at_fault, typed_fault_where, policy_table_fault, policy_fault, policy_items_fault, policies_fault, typed_fault, parts_fault, parts_settings_fault, sub_policies_fault, sub_value_fault, table_fault, least}
-use Rattle.tsc_config.specs.Values.{found_before, natural_of, items_at, composite_of, truth_of, attribute, leaf_in, kind_in, always, kind_by, kind_typed, policy_of, item_policies, policies_of, parts_policies, parts_settings, sub_policies, sub_value, policy_value, config_of}
-use Rattle.tsc_config.specs.PolicyKeys.{IsText, IsComposite, unshared, count_items, IsTyped, IsWanted, IsLeaf, IsLayer, IsKind, IsPolicy, ArePartsAt, items_of, part_items, settings_items, nested_items, value_at, parts_in, parts_of, parts_at, policy_at, HasPolicies, HasMatched, ReadsPolicies}
+use Rattle.tsc_config.specs.PolicyOrder.{found_before, ordered}
+use Rattle.tsc_config.specs.Values.{natural_of, items_at, within_share, found_unless, order_of, composite_of, truth_of, attribute, leaf_in, kind_in, always, kind_by, kind_typed, policy_of, item_policies, policies_of, parts_policies, parts_settings, sub_policies, sub_value, policy_value, config_of}
+use Rattle.tsc_config.specs.PolicyKeys.{IsText, IsComposite, unshared, IsTyped, IsWanted, IsLeaf, IsLayer, IsKind, IsPolicy, ArePartsAt, items_of, part_items, asked_items, settings_items, nested_items, value_at, parts_in, parts_of, parts_at, policy_at, HasPolicies, HasMatched, ReadsPolicies}
 use Rattle.config_faults.specs.declared.fault.ConfigFault.{ConfigFault}
 use Rattle.config_faults.specs.declared.fault.ConfigFault.TheVariants.{MissingKey, OutOfRange}
 use Rattle.config_faults.specs.declared.policy_types.PolicyType.{PolicyType}
@@ -74,43 +73,6 @@ four : (a b c d : Option ConfigFault) → least a (least b (least c (least d Non
 four a b c d e = let n = neither a (least b (least c (least d None))) e in (n.0, three b c d n.1)
 
 -- ---- the policies that a policy is made of
-
--- what is made of the value at a key, where it stands there
-abbrev looked : {X : Type 0} → X → (Data → X) → Option Data → X
-looked none f None = none
-looked none f (Some value) = f value
-
--- a walk through the members finds what a look-up finds
-walk : {X : Type 0} (k : List ℕ) (none : X) (f : Data → X) (w : Members → X) → w no_members ≡ none
-    → ((key : List ℕ) (value : Data) (rest : Members) → w (member key value rest) ≡ (if bytes_eq key k then f value else w rest)) → (ms : Members) → w ms ≡ looked none f (get_member k ms)
-walk k none f w z s no_members = z
-walk {X} k none f w z s (member key value rest) = s key value rest ∙ ap (λ (r : Bool). if r then f value else w rest) (turned k key ∙ sym (is_eq-slice_cmp k key)) ∙ go (slice_cmp nat_cmp k key) (walk k none f w z s rest)
-  where
-    go : (o : Ordering) → w rest ≡ looked none f (get_member k rest)
-        → (if is_eq o then f value else w rest) ≡ looked none f (match_ordering o (get_member k rest) (Some value) (get_member k rest))
-    go Less later = later
-    go Equal later = refl
-    go Greater later = later
-
-parts_found : (join : Join) (ms : Members) → parts_policies join ms ≡ looked [] (parts_settings join) (get_member (join_name join) ms)
-parts_found join ms = walk (join_name join) [] (parts_settings join) (parts_policies join) refl (λ key value rest. refl) ms
-
-parts_fault_found : (join : Join) (ms : Members) → parts_fault join ms ≡ looked (Some MissingKey) (parts_settings_fault join) (get_member (join_name join) ms)
-parts_fault_found join ms = walk (join_name join) (Some MissingKey) (parts_settings_fault join) (parts_fault join) refl (λ key value rest. refl) ms
-
-sub_found : (join : Join) (ms : Members) → sub_policies join ms ≡ looked [] (sub_value join) (get_member (sub_key join) ms)
-sub_found join ms = walk (sub_key join) [] (sub_value join) (sub_policies join) refl (λ key value rest. refl) ms
-
-sub_fault_found : (join : Join) (ms : Members) → sub_policies_fault join ms ≡ looked (Some MissingKey) (sub_value_fault join) (get_member (sub_key join) ms)
-sub_fault_found join ms = walk (sub_key join) (Some MissingKey) (sub_value_fault join) (sub_policies_fault join) refl (λ key value rest. refl) ms
-
-as_many : (items : Items) → policy_items_fault items ≡ None → length (item_policies items) ≡ count_items items
-as_many no_items e = refl
-as_many (item value rest) e = of value (neither (policy_fault value) (policy_items_fault rest) e).0 (as_many rest (neither (policy_fault value) (policy_items_fault rest) e).1)
-  where
-    of : (value : Data) → policy_fault value ≡ None → length (item_policies rest) ≡ count_items rest → length (found_before (policy_value value) (item_policies rest)) ≡ 1 + count_items rest
-    of (table members) f later = omega (arith, later)
-    of _ f later = absurd (cc f)
 
 -- the policy tables at the key of a policy that is joined so, without a fault
 abbrev PartsAt : Join → Option Data → Type 0
@@ -164,6 +126,14 @@ nested join members e = at_name (get_member (join_name join) members) refl (sym 
     at_name None a f = absurd (cc f)
     at_name (Some _) a f = absurd (cc f)
 
+-- and in the order in which they are asked
+asked_sound : (join : Join) (settings : Members) → policy_items_fault (part_items join (get_member (sub_key join) settings)) ≡ None → policy_items_fault (asked_items join settings) ≡ None
+asked_sound join_is.FirstMatch settings s = ordered_sound (get_member (codes "policy_order") settings) (part_items join_is.FirstMatch (get_member (codes "composite_sub_policy") settings)) s
+asked_sound join_is.And settings s = s
+asked_sound join_is.Not settings s = s
+asked_sound join_is.Drop settings s = s
+asked_sound join_is.Share settings s = s
+
 -- ---- one policy
 
 -- of a type with settings of its own
@@ -203,6 +173,10 @@ is_joined join members s named e =
     is_layer members _ (PolicyKind-F.Joined join (parts_policies join members)) (rolls-Joined join (parts_policies join members))
     (simple_layer join members (parts_policies join members) s (n.settings, record { typed = named; at_name = n.at_name }, n.counted))
 
+-- an order without a fault is followed
+order_used : (settings : Members) → order_fault join_is.FirstMatch settings ≡ None → order_of settings ≡ get_member (codes "policy_order") settings
+order_used settings e = ap (λ (fault : Option ConfigFault). found_unless fault (get_member (codes "policy_order") settings)) e
+
 -- a composite: its settings give the total and the shares
 is_composite : (members : Members) → IsText members (codes "type") (codes "composite") → parts_fault join_is.FirstMatch members ≡ None
     → IsKind members (kind_is.Joined join_is.FirstMatch (composite_of (get_member (codes "composite") members) (parts_policies join_is.FirstMatch members)))
@@ -211,21 +185,36 @@ is_composite members named e =
     let parts = parts_policies join_is.FirstMatch members in
     let rows = three (required natural_fault (get_member (codes "max_total_spans_per_second") n.settings)) (optional (array_fault text_fault) (get_member (codes "policy_order") n.settings))
     (optional (array_fault allocation_fault) (get_member (codes "rate_allocation") n.settings)) n.rows in
+    let order = get_member (codes "policy_order") n.settings in
+    let at_order = allowed (is_ordered order (get_member (codes "composite_sub_policy") n.settings)) n.ordered in
+    let total = natural_of (get_member (codes "max_total_spans_per_second") n.settings) in
+    let allocations = items_at (get_member (codes "rate_allocation") n.settings) in
+    let shares = ap (λ (at : Option Data). composite_of at parts) n.at_name
+    ∙ ap (λ (at : Option Data). map (within_share total (length parts) allocations) (ordered at parts)) (order_used n.settings n.ordered) in
     let layer : IsComposite members (composite_of (get_member (codes "composite") members) parts) = record {
       settings = n.settings;
       typed = record { typed = named; at_name = n.at_name };
       given = parts;
       at_parts = n.counted;
-      at_order = allowed (is_ordered (get_member (codes "policy_order") n.settings) (get_member (codes "composite_sub_policy") n.settings)) n.ordered;
-      total = natural_of (get_member (codes "max_total_spans_per_second") n.settings);
+      at_order = at_order;
+      total = total;
       at_total = natural_keys (get_member (codes "max_total_spans_per_second") n.settings) rows.0;
-      are = ap (λ (at : Option Data). composite_of at parts) n.at_name;
+      as_many = ap length shares
+          ∙ as_many_shares total (length parts) allocations (ordered order parts)
+          ∙ all_asked (get_member (codes "composite_sub_policy") n.settings) parts order n.parts n.sound n.counted at_order;
+      are = shares;
     } in
     is_layer members _ (PolicyKind-F.Joined join_is.FirstMatch (composite_of (get_member (codes "composite") members) parts)) (rolls-Joined join_is.FirstMatch (composite_of (get_member (codes "composite") members) parts)) layer
   where
     allowed : (r : Bool) → (if r then None else Some OutOfRange) ≡ None → r ≡ true
     allowed true f = refl
     allowed false f = absurd (cc f)
+
+    all_asked : (at : Option Data) (parts : List Policy) (order : Option Data) → parts ≡ item_policies (part_items join_is.FirstMatch at) → policy_items_fault (part_items join_is.FirstMatch at) ≡ None
+        → ArePartsAt join_is.FirstMatch at parts → is_ordered order at ≡ true → length (ordered order parts) ≡ length parts
+    all_asked (Some (array items)) parts order same sound counted o = ap (λ (ps : List Policy). length (ordered order ps)) same ∙ ordered_as_many order items sound o ∙ sym (ap length same)
+    all_asked None parts order same sound counted o = absurd (cc counted.1)
+    all_asked (Some _) parts order same sound counted o = absurd (cc counted.1)
 
 abbrev parts : PolicyType → Members → List Policy
 parts kind members = parts_policies (join_of (Some kind)) members
@@ -349,29 +338,41 @@ no_parts kind None = none_in leaf_is.AlwaysSample
 no_parts kind (Some (table settings)) = none_in_settings kind settings
 no_parts kind (Some _) = none_in leaf_is.AlwaysSample
 
+-- the policies inside a kind are those of the policy tables at the key of their settings, which have no fault
+abbrev HasAsked : Join → Members → PolicyKind → Type 0
+HasAsked join members kind =
+    (policy_items_fault (settings_items join (get_member (join_name join) members)) ≡ None)
+    × (parts_of kind ≡ item_policies (settings_items join (get_member (join_name join) members)))
+
+asked_there : (join : Join) (members : Members) (kind : PolicyKind) (n : Nested join members) → parts_of kind ≡ item_policies (asked_items join n.settings) → HasAsked join members kind
+asked_there join members kind n same =
+    let P : Items → Type 0 = λ items. policy_items_fault items ≡ None in
+    let here : asked_items join n.settings ≡ settings_items join (get_member (join_name join) members) = sym (ap (settings_items join) n.at_name) in
+    (subst P here (asked_sound join n.settings n.sound), same ∙ ap item_policies here)
+
 -- a policy without parts, or with those of a table without a fault
 abbrev HasParts : Option PolicyType → Members → PolicyKind → Type 0
-HasParts found members kind =
-    (parts_of kind ≡ []) ⊎ ((parts_fault (join_of found) members ≡ None) × (parts_of kind ≡ parts_policies (join_of found) members))
+HasParts found members kind = (parts_of kind ≡ []) ⊎ HasAsked (join_of found) members kind
 
 composite_parts : (members : Members) → typed_fault type_is.Composite members (parts_fault join_is.FirstMatch members) ≡ None
-    → (parts_fault join_is.FirstMatch members ≡ None) × (parts_of (kind_is.Joined join_is.FirstMatch (composite_of (get_member (codes "composite") members) (parts_policies join_is.FirstMatch members))) ≡ parts_policies join_is.FirstMatch members)
+    → HasAsked join_is.FirstMatch members (kind_is.Joined join_is.FirstMatch (composite_of (get_member (codes "composite") members) (parts_policies join_is.FirstMatch members)))
 composite_parts members e =
-    let f = (neither (unknown_fault (table_is.Policy type_is.Composite) members) (settings_at_fault type_is.Composite members (parts_fault join_is.FirstMatch members)) e).1 in
-    let n = nested join_is.FirstMatch members f in
+    let n = nested join_is.FirstMatch members (neither (unknown_fault (table_is.Policy type_is.Composite) members) (settings_at_fault type_is.Composite members (parts_fault join_is.FirstMatch members)) e).1 in
     let parts = parts_policies join_is.FirstMatch members in
-    let shares = composite_of (get_member (codes "composite") members) parts in (
-      f,
-      parts_are _ (PolicyKind-F.Joined join_is.FirstMatch shares) (rolls-Joined join_is.FirstMatch shares) ∙ ap (λ (at : Option Data). unshared (composite_of at parts)) n.at_name
-          ∙ unshared_are (natural_of (get_member (codes "max_total_spans_per_second") n.settings)) (length parts) (items_at (get_member (codes "rate_allocation") n.settings)) parts,
-    )
+    let shares = composite_of (get_member (codes "composite") members) parts in
+    let order = get_member (codes "policy_order") n.settings in
+    asked_there join_is.FirstMatch members (kind_is.Joined join_is.FirstMatch shares) n (parts_are _ (PolicyKind-F.Joined join_is.FirstMatch shares) (rolls-Joined join_is.FirstMatch shares)
+    ∙ ap (λ (at : Option Data). unshared (composite_of at parts)) n.at_name
+    ∙ unshared_are (natural_of (get_member (codes "max_total_spans_per_second") n.settings)) (length parts) (items_at (get_member (codes "rate_allocation") n.settings)) (ordered (order_of n.settings) parts)
+    ∙ ap (λ (at : Option Data). ordered at parts) (order_used n.settings n.ordered)
+    ∙ ap (λ (ps : List Policy). ordered order ps) n.parts ∙ ordered_are order (part_items join_is.FirstMatch (get_member (codes "composite_sub_policy") n.settings)) n.sound)
 
-joined_parts : (kind : PolicyType) (join : Join) (members : Members) → IsSimple join → typed_fault (kind) members (parts_fault join members) ≡ None → settings_at_fault kind members (parts_fault join members) ≡ parts_fault join members
-    → (parts_fault join members ≡ None) × (parts_of (kind_is.Joined join (parts_policies join members)) ≡ parts_policies join members)
-joined_parts kind join members s e same = (
-  sym same ∙ (neither (unknown_fault (table_is.Policy kind) members) (settings_at_fault kind members (parts_fault join members)) e).1,
-  parts_are _ (PolicyKind-F.Joined join (parts_policies join members)) (rolls-Joined join (parts_policies join members)) ∙ simple_parts join (parts_policies join members) s,
-)
+joined_parts : (kind : PolicyType) (join : Join) (members : Members) → IsSimple join → typed_fault kind members (parts_fault join members) ≡ None → settings_at_fault kind members (parts_fault join members) ≡ parts_fault join members
+    → HasAsked join members (kind_is.Joined join (parts_policies join members))
+joined_parts kind join members s e same =
+    let n = nested join members (sym same ∙ (neither (unknown_fault (table_is.Policy kind) members) (settings_at_fault kind members (parts_fault join members)) e).1) in
+    let parts = parts_policies join members in
+    asked_there join members (kind_is.Joined join parts) n (parts_are _ (PolicyKind-F.Joined join parts) (rolls-Joined join parts) ∙ simple_parts join parts s ∙ n.parts ∙ simple_items join n.settings s)
   where
     simple_parts : (j : Join) (parts : List Policy) → IsSimple j → parts_in (PolicyKind-F.Joined j parts) ≡ parts
     simple_parts join_is.And parts s = refl
@@ -379,6 +380,13 @@ joined_parts kind join members s e same = (
     simple_parts join_is.Drop parts s = refl
     simple_parts join_is.Share parts s = refl
     simple_parts join_is.FirstMatch parts s = absurd s
+
+    simple_items : (j : Join) (settings : Members) → IsSimple j → item_policies (part_items j (get_member (sub_key j) settings)) ≡ item_policies (asked_items j settings)
+    simple_items join_is.And settings s = refl
+    simple_items join_is.Not settings s = refl
+    simple_items join_is.Drop settings s = refl
+    simple_items join_is.Share settings s = refl
+    simple_items join_is.FirstMatch settings s = absurd s
 
 parts_typed : (found : Option PolicyType) (members : Members) → typed_fault_where found members (parts_fault (join_of found) members) ≡ None
     → HasParts found members (kind_typed found members (parts_policies (join_of found) members))
@@ -408,15 +416,9 @@ at_places (next ∷ deeper) items place policy e h = inside (slice_get (item_pol
     Inside : Option Data → Type 0
     Inside at = OfTable (value_at (nested_items at) next deeper) policy
 
-    in_parts : (members : Members) → Nested (join_at members) members → policy_at (parts_of_table members) next deeper ≡ Some policy → Later → Inside (Some (table members))
-    in_parts members n g later =
-        let P : Items → Type 0 = λ inner. OfTable (value_at inner next deeper) policy in
-        let same : nested_items (Some (table members)) ≡ part_items (join_at members) (get_member (sub_key (join_at members)) n.settings) = ap (settings_items (join_at members)) n.at_name in
-        subst P (sym same) (later _ next n.sound (ap (λ (ps : List Policy). policy_at ps next deeper) (sym n.parts) ∙ g))
-
     in_table : (members : Members) → (kind : PolicyKind) → policy_at (parts_of kind) next deeper ≡ Some policy → HasParts (type_at members) members kind → Later → Inside (Some (table members))
     in_table members kind g (inl none) later = absurd (nothing deeper next policy (ap (λ (ps : List Policy). policy_at ps next deeper) (sym none) ∙ g))
-    in_table members kind g (inr (f, all)) later = in_parts members (nested (join_at members) members f) (ap (λ (ps : List Policy). policy_at ps next deeper) (sym all) ∙ g) later
+    in_table members kind g (inr (f, all)) later = later (nested_items (Some (table members))) next f (ap (λ (ps : List Policy). policy_at ps next deeper) (sym all) ∙ g)
 
     inside : (found : Option Policy) → slice_get (item_policies items) place ≡ found → policy_at (parts_at found) next deeper ≡ Some policy → Later → Inside (get_item place items)
     inside None s g later = absurd (nothing deeper next policy g)

@@ -7,8 +7,10 @@ use Rattle.config_faults.proofs.Rows.{Range, ranges, cache_ranges, one_key, one_
 use Rattle.config_faults.specs.declared.policy_types.PolicyType.TheVariants as type_is
 use Rattle.policy_tree.specs.declared.limit.Limit.TheVariants.{Bytes}
 use Rattle.policy_tree.specs.declared.policy.Leaf.TheVariants as leaf_is
+use Rattle.policy_tree.specs.declared.policy.Policy.{Policy}
+use Rattle.policy_tree.specs.declared.policy.PolicyKind.TheVariants as kind_is
 use Rattle.policy_tree.specs.declared.policy.Wanted.TheVariants.{StringAmong, StringMatching}
-use Rattle.tsc_config.specs.Values.{config_of, leaf_in, salt_by, share_limit, percent_among, bucket}
+use Rattle.tsc_config.specs.Values.{config_of, leaf_in, salt_by, share_limit, percent_among, within_share, shares_of, bucket}
 use Rattle.tsc_config.specs.declared.config.Config.{Config}
 use Rattle.tsc_config.specs.declared.log_form.LogForm.TheVariants as log_is
 use Rattle.tsc_config.specs.declared.output_fault.OutputFault.TheVariants as output_is
@@ -74,6 +76,24 @@ allocation name percent = table (member (codes "policy") (string name) (member (
 
 percentages_of_parts : map (λ (name : List ℕ). percent_among name (item (allocation (codes "a") 50) (item (allocation (codes "a") 40) (item (allocation (codes "b") 101) no_items)))) (codes "a" ∷ codes "b" ∷ codes "c" ∷ []) ≡ Some 50 ∷ None ∷ None ∷ []
 percentages_of_parts = refl
+
+-- three parts are asked as they stand, or as `policy_order` names them; each has the share that it has by its name
+abbrev part : (letter : ℕ) → Policy
+part letter = record { name = letter ∷ []; kind = kind_is.Leaf leaf_is.AlwaysSample }
+
+abbrev texts : List ℕ → Items
+texts [] = no_items
+texts (letter ∷ rest) = item (string (letter ∷ [])) (texts rest)
+
+abbrev shared : Members → Members
+shared rest = member (codes "max_total_spans_per_second") (integer (pos 10)) (member (codes "rate_allocation") (array (item (allocation (codes "b") 50) no_items)) rest)
+
+with_order : map (λ (order : List ℕ). shares_of (shared (member (codes "policy_order") (array (texts order)) no_members)) (map part (codes "abc"))) (codes "abc" ∷ codes "cab" ∷ codes "bca" ∷ [])
+    ≡ map (λ (order : List ℕ). map (within_share 10 3 (item (allocation (codes "b") 50) no_items)) (map part order)) (codes "abc" ∷ codes "cab" ∷ codes "bca" ∷ [])
+with_order = refl
+
+without_order : shares_of (shared no_members) (map part (codes "bac")) ≡ map (within_share 10 3 (item (allocation (codes "b") 50) no_items)) (map part (codes "bac"))
+without_order = refl
 
 -- with `sample_on_first_match` one policy stands for the others
 one_for_all : map (λ (first : Bool). length (config_of (member (codes "sample_on_first_match") (boolean first) (member (codes "policies") (array no_items) no_members))).policies) (true ∷ false ∷ []) ≡ 1 ∷ 0 ∷ []

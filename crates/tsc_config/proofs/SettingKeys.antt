@@ -12,7 +12,8 @@ use Rattle.tsc_config.proofs.Settings.{neither, natural, numbered}
 use Rattle.config_faults.specs.PolicyTypes.{type_name, all_types}
 use Rattle.config_faults.specs.Keys.{type_among, type_named, code_named, code_of}
 use Rattle.config_faults.specs.Faults.{optional, required, natural_fault, text_fault, named_fault, items_fault, array_fault, is_error_mode, error_mode_fault, code_fault, percentage_fault, truth_fault, whole_fault, least}
-use Rattle.tsc_config.specs.Values.{found_before, natural_of, codes_of, item_codes, texts_of, item_texts, text_of, truth_of, whole_of, texts_wanted, error_mode_of, salt_by, percentage_at, number_or}
+use Rattle.tsc_config.specs.PolicyOrder.{found_before}
+use Rattle.tsc_config.specs.Values.{natural_of, codes_of, item_codes, texts_of, item_texts, text_of, truth_of, whole_of, texts_wanted, error_mode_of, salt_by, percentage_at, number_or}
 use Rattle.ottl_text.specs.declared.expression.ErrorMode.TheVariants as mode_is
 use Rattle.tsc_config.specs.PolicyKeys.{AreTexts, AreTextsAt, IsErrorModeAt, IsWanted, IsCode, AreCodes, IsSaltAt, IsPercentage, IsNatural, IsNaturalOrZero}
 use Rattle.tsc_config.specs.Settings.{IsNumberAt}

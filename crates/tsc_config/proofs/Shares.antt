@@ -1,6 +1,6 @@
 -- The share of a total, and the parts of a composite.
 -- For the contracts of `percentage` and `policies_are_of_their_keys`.
-use Rattle.std.proofs.Common.{Bool, true, false, ◌≡◌, ℕ, ◌*◌, ◌/◌, ◌≤◌, List, [], ◌∷◌, map, arith, refl, sym, ap, ◌∙◌}
+use Rattle.std.proofs.Common.{Bool, true, false, ◌≡◌, ℕ, ◌*◌, ◌/◌, ◌≤◌, List, [], ◌∷◌, length, map, arith, refl, sym, ap, ◌∙◌}
 use Rattle.std.proofs.Math.Nat.{div-le_of_le-mul, mul-le-mul_left}
 use Rattle.std.proofs.lemmas.Slice.Eq.{bytes_eq-Decides}
 use Rattle.std.specs.Str.{bytes_eq}
@@ -29,6 +29,11 @@ unshared_are total count allocations (part ∷ rest) =
     let same : out-PolicyKind (kind_is.Joined join_is.Share inner) ≡ PolicyKind-F.Joined join_is.Share inner
     = sym (ap out-PolicyKind (rolls-Joined join_is.Share inner)) ∙ out-roll-PolicyKind (PolicyKind-F.Joined join_is.Share inner) in
     ap (λ (layer : PolicyKind-F PolicyKind Policy). first_in layer others) same ∙ ap (λ (ps : List Policy). part ∷ ps) (unshared_are total count allocations rest)
+
+-- and as many
+pub as_many_shares : (total count : ℕ) (allocations : Items) (parts : List Policy) → length (map (within_share total count allocations) parts) ≡ length parts
+as_many_shares total count allocations [] = refl
+as_many_shares total count allocations (part ∷ rest) = let later = as_many_shares total count allocations rest in omega (arith, later)
 
 -- texts are the same in either order
 same : (a b : Bool) → (a ≡ true → b ≡ true) → (b ≡ true → a ≡ true) → a ≡ b

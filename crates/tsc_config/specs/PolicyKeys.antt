@@ -21,7 +21,8 @@ use Rattle.config_faults.specs.Keys.{join_name, sub_key, join_at}
 use Rattle.config_faults.specs.Percentages.{over_ten_thousand}
 use Rattle.tsc_config.specs.Reading.{reading}
 use Rattle.tsc_config.specs.Settings.{IsNumberAt}
-use Rattle.config_faults.specs.Composites.{is_ordered}
+use Rattle.config_faults.specs.Composites.{is_ordered, count_items}
+use Rattle.tsc_config.specs.PolicyOrder.{ordered, ordered_items}
 use Rattle.tsc_config.specs.Values.{matched, items_at, within_share}
 use Rattle.tsc_config.specs.declared.config.Config.{Config}
 
@@ -96,11 +97,6 @@ AreCodes no_items numbers = numbers ≡ []
 AreCodes (item value rest) [] = ⊥
 AreCodes (item value rest) (number ∷ numbers) = IsCode value number × AreCodes rest numbers
 
--- how many items there are
-abbrev pub count_items : Items → ℕ
-count_items no_items = 0
-count_items (item value rest) = 1 + count_items rest
-
 -- ---- one policy
 
 -- the table is one of this type, and its settings are the table at the key of that name
@@ -160,8 +156,8 @@ abbrev pub ArePartsAt : Join → Option Data → (parts : List Policy) → Type 
 ArePartsAt join_is.Not at parts = (value : Data) × (at ≡ Some value) × (length parts ≡ 1)
 ArePartsAt _ at parts = (items : Items) × (at ≡ Some (array items)) × (length parts ≡ count_items items)
 
--- the parts of a composite are as many as the items of an array, whose names its order has, if it has one; each stands
--- within its share of the total
+-- the parts of a composite are as many as the items of an array, and are asked in the order that names each of them once,
+-- if there is one, else as they stand there; each stands within its share of the total
 pub record IsComposite (members : Members) (parts : List Policy) : Type 0 where
   pub settings : Members
   pub typed : IsTyped members (codes "composite") settings
@@ -170,7 +166,8 @@ pub record IsComposite (members : Members) (parts : List Policy) : Type 0 where
   pub at_order : is_ordered (get_member (codes "policy_order") settings) (get_member (codes "composite_sub_policy") settings) ≡ true
   pub total : ℕ
   pub at_total : IsNatural settings (codes "max_total_spans_per_second") total
-  pub are : parts ≡ map (within_share total (length given) (items_at (get_member (codes "rate_allocation") settings))) given
+  pub as_many : length parts ≡ length given
+  pub are : parts ≡ map (within_share total (length given) (items_at (get_member (codes "rate_allocation") settings))) (ordered (get_member (codes "policy_order") settings) given)
 
 -- what a policy samples, by the keys of its table
 abbrev pub IsLayer : Members → PolicyKind-F PolicyKind Policy → Type 0
@@ -194,7 +191,7 @@ pub record IsPolicy (members : Members) (policy : Policy) : Type 0 where
   pub kind : IsKind members policy.kind
 
 -- ---- all policies, each by its place: the number of its item in `policies`, or further that of an item in the policies
--- that the one before is made of
+-- that the one before is made of, as they are asked
 
 -- the items of an array
 abbrev pub items_of : Option Data → Items
@@ -207,9 +204,14 @@ part_items join_is.Not None = no_items
 part_items join_is.Not (Some value) = item value no_items
 part_items _ at = items_of at
 
--- those of the settings of a policy that is joined so
+-- the policy tables of the settings of a policy that is joined so, in the order in which they are asked
+abbrev pub asked_items : Join → Members → Items
+asked_items join_is.FirstMatch settings = ordered_items (get_member (codes "policy_order") settings) (part_items join_is.FirstMatch (get_member (codes "composite_sub_policy") settings))
+asked_items join settings = part_items join (get_member (sub_key join) settings)
+
+-- those of the value at the key of such settings
 abbrev pub settings_items : Join → Option Data → Items
-settings_items join (Some (table settings)) = part_items join (get_member (sub_key join) settings)
+settings_items join (Some (table settings)) = asked_items join settings
 settings_items join _ = no_items
 
 -- those of a policy table, by its type

@@ -18,12 +18,15 @@ use Rattle.ottl_text.specs.declared.expression.ErrorMode.{ErrorMode}
 use Rattle.ottl_text.specs.declared.expression.ErrorMode.TheVariants as mode_is
 use Rattle.config_faults.specs.Composites.{is_text}
 use Rattle.tsc_config.specs.HeaderFields.{headers_of}
+use Rattle.tsc_config.specs.PolicyOrder.{found_before, ordered}
+use Rattle.config_faults.specs.Faults.{order_fault}
 use Rattle.config_faults.specs.Percentages.{percentage_of}
 use Rattle.config_faults.specs.Tables.{NumberRow, number_row, ChoiceRow, choice_row}
 use Rattle.config_faults.specs.PolicyTypes.{type_name}
 use Rattle.config_faults.specs.Keys.{type_at, code_of, join_name, sub_key, join_at}
 use Rattle.config_faults.specs.declared.tables.ChoiceKey.TheVariants as choice_is
 use Rattle.config_faults.specs.declared.tables.NumberKey.TheVariants as number_is
+use Rattle.config_faults.specs.declared.fault.ConfigFault.{ConfigFault}
 use Rattle.config_faults.specs.declared.policy_types.PolicyType.{PolicyType}
 use Rattle.config_faults.specs.declared.policy_types.PolicyType.TheVariants as type_is
 use Rattle.tsc_config.specs.declared.config.Config.{Config}
@@ -115,11 +118,6 @@ output_fault_named text = if bytes_eq text (codes "stop") then output_is.Stop el
 abbrev pub output_fault_of : Option Data → OutputFault
 output_fault_of (Some (string text)) = output_fault_named text
 output_fault_of _ = output_is.Discard
-
--- one element or none, before others
-abbrev pub found_before : {A : Type 0} → Option A → List A → List A
-found_before None rest = rest
-found_before (Some found) rest = found ∷ rest
 
 -- the items of the array at a key, none where there is no array
 abbrev pub items_at : Option Data → Items
@@ -289,10 +287,19 @@ abbrev pub within_share : (total count : ℕ) → (allocations : Items) → Poli
 within_share total count allocations part =
     record { name = part.name; kind = kind_is.Joined join_is.Share (part ∷ limiter_beside (share_limit total count (percent_among part.name allocations)) part.name ∷ []) }
 
--- the parts of a composite with these settings, each within its share
+-- what stands at a key, where there is no fault
+abbrev pub found_unless : Option ConfigFault → Option Data → Option Data
+found_unless None at = at
+found_unless (Some fault) at = None
+
+-- the order of a composite with these settings; one with a fault counts for nothing
+abbrev pub order_of : Members → Option Data
+order_of settings = found_unless (order_fault join_is.FirstMatch settings) (get_member (codes "policy_order") settings)
+
+-- the parts of a composite with these settings, as they are asked, each within its share
 abbrev pub shares_of : Members → List Policy → List Policy
 shares_of settings parts =
-    map (within_share (natural_of (get_member (codes "max_total_spans_per_second") settings)) (length parts) (items_at (get_member (codes "rate_allocation") settings))) parts
+    map (within_share (natural_of (get_member (codes "max_total_spans_per_second") settings)) (length parts) (items_at (get_member (codes "rate_allocation") settings))) (ordered (order_of settings) parts)
 
 -- the same by the value at the key of its settings
 abbrev pub composite_of : Option Data → List Policy → List Policy

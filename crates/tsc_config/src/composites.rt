@@ -1,17 +1,18 @@
 //! The shares of the parts of a composite.
-ghost use Rattle.std.specs.Prelude.{◌≡◌, ◌≤◌, ◌*◌, ◌/◌, IfOk, IfSome, codes};
+ghost use Rattle.std.specs.Prelude.{◌≡◌, ◌≤◌, ◌*◌, ◌/◌, IfOk, IfSome, codes, map, option_map};
 ghost use Rattle.toml.specs.Data.{get_member};
 ghost use Rattle.toml.specs.View.{view, table_view, items_view};
+ghost use Rattle.tsc_config.specs.PolicyOrder as orders;
 ghost use Rattle.tsc_config.specs.Values as spec;
 
 use crate::settings_values::{items_at, natural_at};
-use config_faults::{is_text_at, member};
+use config_faults::{is_text_at, member, order_fault};
 use otlp_types::{List, Text, TryClone};
 use policy_tree::{Join, Limit, Policy, PolicyKind};
 use std::alloc::{AllocError, Global};
 use toml::{Table, Value};
 
-/// The parts of a composite, each within its share, by the value at the key of its settings.
+/// The parts of a composite as they are asked, each within its share, by the value at the key of its settings.
 pub fn composite_of(
     alloc: Global,
     table: &Table,
@@ -44,11 +45,81 @@ fn shares_of(
     let total = natural_at(settings, "max_total_spans_per_second");
     let count = parts.len() as u64;
     let allocations = items_at(settings, "rate_allocation");
+    let parts = parts.as_slice();
+    match order_of(settings) {
+        Some(Value::Array(order)) => {
+            shares_by_order(alloc, total, count, allocations, order.as_slice(), parts)
+        }
+        _ => shares_as_written(alloc, total, count, allocations, parts),
+    }
+}
+
+/// What stands at the key of the order.
+fn order_of(settings: &Table) -> Option<&Value>
+    ensures { option_map (λ v. view v.now) result ≡ spec.order_of (table_view settings.now) }
+{
+    // One with a fault is passed over, so that no fault of the policies follows from it.
+    match order_fault(Join::FirstMatch, settings) {
+        None => member(settings, "policy_order"),
+        Some(_) => None,
+    }
+}
+
+fn shares_as_written(
+    alloc: Global,
+    total: u64,
+    count: u64,
+    allocations: &[Value],
+    parts: &[Policy],
+) -> Result<List<Policy>, AllocError>
+    ensures { IfOk result (λ list. list ≡ map (spec.within_share total count (items_view allocations.now)) parts.now) }
+{
     let mut list = List::new(alloc);
-    for part in parts.as_slice() {
+    for part in parts {
         list.push(within_share(alloc, total, count, allocations, part)?)?;
     }
     Ok(list)
+}
+
+/// For each of these texts the first part that it names, within its share.
+fn shares_by_order(
+    alloc: Global,
+    total: u64,
+    count: u64,
+    allocations: &[Value],
+    order: &[Value],
+    parts: &[Policy],
+) -> Result<List<Policy>, AllocError>
+    ensures { IfOk result (λ list. list ≡ map (spec.within_share total count (items_view allocations.now)) (orders.each_named (items_view order.now) parts.now)) }
+{
+    let mut list = List::new(alloc);
+    for text in order {
+        if let Some(part) = first_named(text, parts) {
+            list.push(within_share(alloc, total, count, allocations, part)?)?;
+        }
+    }
+    Ok(list)
+}
+
+fn first_named<'a>(text: &Value, parts: &'a [Policy]) -> Option<&'a Policy>
+    ensures { option_map (λ part. part.now) result ≡ orders.first_named (view text.now) parts.now }
+{
+    for part in parts {
+        if names(text, part) {
+            return Some(part);
+        }
+    }
+    None
+}
+
+/// Whether a text is the name of this policy.
+fn names(text: &Value, policy: &Policy) -> bool
+    ensures { result ≡ orders.names (view text.now) policy.now }
+{
+    match text {
+        Value::String(text) => text.as_str() == policy.name.as_str(),
+        _ => false,
+    }
 }
 
 /// A part, one of `count`, within its share of the total in spans per second.

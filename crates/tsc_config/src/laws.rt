@@ -20,7 +20,7 @@ pub fn settings_are_of_their_keys()
 
 /// The policies of a configuration that a text is read as are as many as the tables of `policies`, and each, however
 /// deep in others, is that of the table at its place: its name, its type, and each of its settings is what stands at
-/// its key, or else the key's default.
+/// its key, or else the key's default. The parts of a composite have their places by `policy_order`, if it is there.
 pub fn policies_are_of_their_keys()
     ensures { ReadsPolicies }
 {}
