@@ -182,7 +182,8 @@ impl<'c, R: Clock + Wait> Admin for InCharge<'c, R> {
             waiting: self.charge.board.waiting(),
         };
         let rows = self.charge.history.rows(alloc)?;
-        status_text(alloc, &status, &rows)
+        let text = status_text(alloc, &status, &rows)?;
+        Ok(text)
     }
 
     fn config(&self) -> &str {
