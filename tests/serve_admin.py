@@ -81,9 +81,10 @@ def the_page(start):
     want("its type", fields["content-type"], "text/html; charset=utf-8")
     want("what keeps it", [fields[it] for it in ("cache-control", "x-content-type-options", "referrer-policy")], ["no-store", "nosniff", "no-referrer"])
     own = f"default-src 'none'; script-src 'sha256-{hashes[0]}'; style-src 'sha256-{hashes[1]}'; connect-src 'self'; img-src data:; "
-    want("its policy", fields["content-security-policy"], own + "base-uri 'none'; form-action 'none'; frame-ancestors 'none'")
+    # (A client here reads the fields in small letters.)
+    want("its policy", fields["content-security-policy"], (own + "base-uri 'none'; form-action 'none'; frame-ancestors 'none'").lower())
     want("what it asks", re.findall('data-feeds="(.*?)"', page), ["metrics status"])
-    want("what it takes from elsewhere", re.findall(r"(?:src|href|action)=[\"'](?!#|data:|metrics|status.json)", page), [])
+    want("what it takes from elsewhere", re.findall(r"(?:src|href|action)=[\"'](?!#|data:|metrics|config)", page), [])
     for port in (metrics, collector.port):
         want(f"the page at {port}", asked(port, get("/"))[::2], (404, '{"message":"not found"}'))
     want("the answer to /close", asked(admin, post(b"", "/close"))[0], 200)
@@ -103,7 +104,7 @@ def counts_as_json(start):
     want("the answer", (status, fields["content-type"], int(fields["content-length"])), (200, "application/json", len(body)))
     want("its keys", [list(json.loads(body)), list(json.loads(body)["spans"]["dropped"])], [["now_ms", "spans", "history"], REASONS])
     want("the counts at the start", spans(json.loads(body)), [0] * 10)
-    want("HEAD of it", asked(admin, get("/status.json").replace(b"GET", b"HEAD"))[::2], (200, ""))
+    want("HEAD of it", asked(admin, get("/status.json", "HEAD"), False)[::2], (200, ""))
     for port in (metrics, collector.port):
         want(f"the status at {port}", asked(port, get("/status.json"))[::2], (404, '{"message":"not found"}'))
     comes_to("the first row", lambda: len(told()["history"]["rows"]), 1)

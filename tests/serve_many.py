@@ -331,7 +331,7 @@ def slow_pipeliner(start):
     client = socket.socket()
     client.setsockopt(socket.SOL_SOCKET, socket.SO_RCVBUF, 4096)
     client.connect(("127.0.0.1", collector.port))
-    requests = [post(body_of(spans_by_number(number, 1))) if number % 3 else post(b"", f"/{number}") for number in range(count)]
+    requests = [post(body_of(spans_by_number(number, 1))) if number % 3 else post(b"[]") for number in range(count)]
     sending = threading.Thread(target=client.sendall, args=(b"".join(requests),), daemon=True)
     sending.start()
     time.sleep(4)
@@ -339,7 +339,7 @@ def slow_pipeliner(start):
     told = b""
     while told.count(b"HTTP/1.1 ") < count and (more := client.recv(65536)):
         told += more
-    want("the answers", [int(it[:3]) for it in told.split(b"HTTP/1.1 ")[1:]], [200 if number % 3 else 404 for number in range(count)])
+    want("the answers", [int(it[:3]) for it in told.split(b"HTTP/1.1 ")[1:]], [200 if number % 3 else 400 for number in range(count)])
     sending.join()
     client.close()
     want("the report", collector.close()[1], [1000, 1000, 0, 0, 0, 0, 0, 0, 0])
