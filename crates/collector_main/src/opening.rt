@@ -9,8 +9,8 @@ use crate::logging::{say_fault, say_listening, say_settings};
 use admin_http::Access;
 use collector_board::{Board, OutputStall, StopMark};
 use collector_serve::{
-    Charge, ClosingDoor, EventWriter, History, MEMORY_ACCOUNT, close_at_end, end_admin, listen, start_admin,
-    start_log_watch, start_memory_watch,
+    Charge, ClosingDoor, EventWriter, History, MEMORY_ACCOUNT, close_at_end, end_admin, listen,
+    start_admin, start_log_watch, start_memory_watch,
 };
 use config_text::settings_in_force;
 use lane_driver::Loads;
