@@ -84,7 +84,7 @@ has_its_end c w h closed lane l at a k =
 module _ (c : CoreConfig) (w : World) (capacity : ℕ) (keeps_doubles : Bool) (key : ConnKey) (s : Submission) (received : List Arrival) (come : HasCome capacity keeps_doubles key s received)
     (each : (a : Arrival) → Contains received a → HasItsEnd c w a) where
   -- the spans of this request of the body, by its connection
-  spans_of : Request → List Arrival
+  abbrev spans_of : Request → List Arrival
   spans_of r = arrivals_from come.old.conn.key come.old.conn.next s.moment (records_of r)
 
   bound : (r : Request) → Reads s.encoding come.old.lane.keeps_doubles s.body r → come.came ≡ spans_of r → (q : Request) → Reads s.encoding come.old.lane.keeps_doubles s.body q
@@ -104,7 +104,7 @@ module _ (c : CoreConfig) (w : World) (capacity : ℕ) (keeps_doubles : Bool) (k
         told = subst (λ (xs : List Arrival). IsReplyTo (length xs) (length (filter is_invalid xs)) full s.reply) (ap spans_of same ∙ sym came) told;
       }
 
-  Taken : Type 0
+  abbrev Taken : Type 0
   Taken = (request : Request) × Reads s.encoding come.old.lane.keeps_doubles s.body request
       × Receives (TakesItem capacity) (IsRefused capacity) (spans_of request) come.old.lane.ports s.reply come.new.lane.ports
       × (come.new.conn ≡ record come.old.conn { next = come.old.conn.next + length (spans_of request) })

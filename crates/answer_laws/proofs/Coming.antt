@@ -42,13 +42,13 @@ SubmitsOne capacity = Submits (TakesItem capacity) (IsRefused capacity)
 
 -- its connection is the same one
 same_key : (capacity : ℕ) (old : Intake (EndState Item)) (s : Submission) (new : Intake (EndState Item)) → SubmitsOne capacity old s new → new.conn.key ≡ old.conn.key
-same_key capacity old s new h = go s.reply h.received (λ f. ap (λ (c : Conn). c.key) (h.refused f).1)
+same_key capacity old s new h = go _ s.reply h.received (λ t. ap (λ (c : Conn). c.key) t.3) (λ f. ap (λ (c : Conn). c.key) (h.refused f).1)
   where
-    go : {A B C : Type 0} → (r : Reply) → OnReceived r (A × B × C × (new.conn ≡ record old.conn { next = new.conn.next })) → (IsRefusal r → new.conn.key ≡ old.conn.key) → new.conn.key ≡ old.conn.key
-    go (Done n) f g = ap (λ (c : Conn). c.key) f.3
-    go (Partial n i u) f g = ap (λ (c : Conn). c.key) f.3
-    go (BadData why) f g = g tt
-    go Busy f g = g tt
+    go : (T : Type 0) → (r : Reply) → OnReceived r T → (T → new.conn.key ≡ old.conn.key) → (IsRefusal r → new.conn.key ≡ old.conn.key) → new.conn.key ≡ old.conn.key
+    go T (Done n) f same g = same f
+    go T (Partial n i u) f same g = same f
+    go T (BadData why) f same g = g tt
+    go T Busy f same g = g tt
 
 -- and its lane keeps doubles as before
 same_doubles : (capacity : ℕ) (old : Intake (EndState Item)) (s : Submission) (new : Intake (EndState Item)) → SubmitsOne capacity old s new → new.lane.keeps_doubles ≡ old.lane.keeps_doubles

@@ -1,9 +1,7 @@
 -- Worked rows of two connections whose turns alternate, by computation.
 -- No contract rests on it: it shows the definitions on worked cases.
-use Rattle.std.proofs.Common.{◌≡◌, true, false, List, [], ◌∷◌, Some, None, refl, arith}
-use Rattle.std.specs.Prelude.{map, codes}
-use Rattle.httparse.specs.Grammar.{print_chunk_line}
-use Rattle.http_text.specs.Body.{GivesSize}
+use Rattle.std.proofs.Common.{◌≡◌, true, false, List, [], ◌∷◌, Some, None, refl}
+use Rattle.std.specs.Prelude.{map}
 use Rattle.drop_ledger.specs.declared.count.Count.TheVariants.{Received, Dropped}
 use Rattle.span_ids.specs.declared.outcome.Reason.TheVariants.{InvalidId, QueueFull}
 use Rattle.otlp_encoding.specs.declared.encoding.Encoding.TheVariants as encoding
@@ -23,15 +21,6 @@ use Rattle.connection_laws.specs.Connections.{turns_had, done_for_bytes, end_by_
 idle_ends : idle_end 7 60006 false ∷ idle_end 7 60007 false ∷ idle_end 7 8 true ∷ idle_end 7 60007 true ∷ []
     ≡ None ∷ Some Quiet ∷ Some Stopped ∷ Some Stopped ∷ []
 idle_ends = refl
-
--- a chunk's line gives its size by hexadecimal digits of either case; blanks and an extension may stand behind them
-plain_line : GivesSize (codes "0\r\n") 0
-unfolding print_chunk_line
-plain_line = (record { digits = codes "0"; pad = []; extension = None }, (record { digits = (omega arith, omega arith, refl); pad = refl; extension = tt }, refl), refl)
-
-line_with_extension : GivesSize (codes "1aF \t;n=v\r\n") 431
-unfolding print_chunk_line
-line_with_extension = (record { digits = codes "1aF"; pad = codes " \t"; extension = Some (codes "n=v") }, (record { digits = (omega arith, omega arith, refl); pad = refl; extension = refl }, refl), refl)
 
 abbrev by_default : Allowed
 by_default = record { gzip = false; protobuf = false; close = true; body_limit = 4194304 }

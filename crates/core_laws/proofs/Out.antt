@@ -41,7 +41,7 @@ waits_nowhere k (h ∷ hs) e = go (is_waiting h.place) refl e (waits_nowhere k h
         own false r = r
 
 -- the one place of a key in a closed world is none at which it waits
-gone_place : (c : CoreConfig) (w : World) (k : ArrivalKey) (place : Place) → IsClosed c w → places c w k ≡ place ∷ [] → is_waiting place ≡ false
+pub gone_place : (c : CoreConfig) (w : World) (k : ArrivalKey) (place : Place) → IsClosed c w → places c w k ≡ place ∷ [] → is_waiting place ≡ false
 gone_place c w k place closed e = (subst (λ (ps : List Place). Each (λ (p : Place). is_waiting p ≡ false) ps) e (waits_nowhere k (held c w) closed.nothing_waits)).0
 
 -- ---- a key that has a place was received

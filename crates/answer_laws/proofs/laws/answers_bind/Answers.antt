@@ -2,4 +2,4 @@ use Rattle.answer_laws.proofs.Binding.{answers_bind}
 use Rattle.answer_laws.proofs.laws.answers_bind.Goals as goal
 
 pub returns : goal.returns
-returns g c = answers_bind _ _ _ _
+returns g c = answers_bind (λ s. s.allowed) (λ s. s.driver) g.D.Driver.asks g.D.Driver.hears
