@@ -14,7 +14,7 @@ use collector_serve::{
 };
 use config_text::settings_in_force;
 use lane_driver::Loads;
-use otlp_types::TryClone;
+use otlp_types::{Text, TryClone};
 use output_file::ReopenMark;
 use pipeline::Machine;
 use status_page::status_page;
@@ -50,6 +50,7 @@ pub fn charge_of(
 ) -> Result<Arc<Charge, Global>, AllocError>
     ensures { IfOk result (λ charge. IfOk text (λ read. reading (string_bytes (arc_value charge).configuration) ≡ reading (string_bytes read))) }
 {
+    let page = status_page();
     let charge = Charge {
         configuration: settings_in_force(alloc, text?.as_str())?,
         stop: StopMark::new(),
@@ -61,7 +62,8 @@ pub fn charge_of(
         output: config.output.try_clone(alloc)?,
         metrics_address: config.metrics.try_clone(alloc)?,
         stall: OutputStall::new(),
-        page: status_page(),
+        page: Text::from_str(alloc, page.text)?,
+        page_fields: Text::from_str(alloc, page.fields)?,
         history: History::new(alloc)?,
     };
     Ok(Arc::new(alloc, charge)?)

@@ -12,7 +12,6 @@ use metrics_text::{Metrics, metrics_text};
 use otlp_types::Text;
 use output_file::ReopenMark;
 use status_json::{Status, status_text};
-use status_page::StatusPage;
 use std::alloc::{AllocError, Global};
 use std::io::Read;
 use std::rt::Files;
@@ -44,8 +43,10 @@ pub struct Charge {
     pub output: Text,
     /// The address at which numbers alone are told, or nothing.
     pub metrics_address: Text,
-    /// The page that shows what it tells.
-    pub page: StatusPage,
+    /// The page that shows what it tells, in HTML.
+    pub page: Text,
+    /// The fields of a head that go with the page, each with its line end.
+    pub page_fields: Text,
     /// The counts of the last minutes.
     pub history: History,
 }
@@ -150,8 +151,8 @@ impl<'c, R: Clock + Wait> Admin for InCharge<'c, R> {
 
     ghost texts = { λ a. record {
       config = string_bytes a.charge.now.configuration;
-      page = a.charge.now.page.text.now;
-      page_fields = a.charge.now.page.fields.now;
+      page = a.charge.now.page;
+      page_fields = a.charge.now.page_fields;
     } };
 
     fn close(&mut self) {
@@ -191,13 +192,11 @@ impl<'c, R: Clock + Wait> Admin for InCharge<'c, R> {
     }
 
     fn page(&self) -> &str {
-        let charge = self.charge;
-        charge.page.text
+        self.charge.page.as_str()
     }
 
     fn page_fields(&self) -> &str {
-        let charge = self.charge;
-        charge.page.fields
+        self.charge.page_fields.as_str()
     }
 }
 
