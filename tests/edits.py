@@ -1,7 +1,7 @@
 #!/usr/bin/env python3
 """Tries the must-fail edits crates/NAME/must-fail/*.edit over the work that `tools/prove.py` kept, and keeps a record of what passed.
 
-usage: edits.py [--jobs N] [--alone] [--changed | NAME ..]     tries the edits of the named crates; of those whose record is stale; of all
+usage: edits.py [--jobs N] [--alone] [--minutes M] [--changed | NAME ..]     tries the edits of the named crates; of those whose record is stale; of all
        edits.py --stale                                        tells which crates' record is stale, and tries nothing
        edits.py --share K/N                                    prints the edits of the K-th of N shares, which cost about the same
 
@@ -11,7 +11,8 @@ read fails, and so do the edits of a crate that isn't proved as it stands. No so
 The edits of a crate that touch different functions are tried in one check of those functions: a function is proved from the contracts of
 what it calls, so what is said of one doesn't depend on another's body (`rt plant` tries its bodies so). Each must be refused by a goal of its
 own function; one of which that isn't plain is tried by itself, at last on the whole crate. --alone tries each alone, on the whole crate.
---jobs N makes N checks side by side, and a check takes 1 to 4 GB. It prints a line an edit and one a check, with its processor seconds.
+--jobs N makes N checks side by side, and a check takes 1 to 4 GB. With --minutes M no check is begun after M minutes: crates with edits that are left
+then are told, count neither as passed nor as failed, and keep their lines of the record. It prints a line an edit and one a check, with its processor seconds.
 
 The record, tests/edits.passed, has a line for each crate all of whose edits were refused: its name, a sum over its files, those of the crates
 below it and the kit's logic, the number of its edits, and the processor seconds of the tries. --stale compares the sums with the files that
@@ -21,6 +22,7 @@ import collections
 import os
 import re
 import sys
+import time
 from concurrent.futures import ThreadPoolExecutor, as_completed
 from pathlib import Path
 
@@ -49,6 +51,10 @@ def read_record():
 def write_record(record):
     head = "# crate, sum of its files, those below it and the kit's logic, edits refused, processor seconds: written by tests/edits.py\n"
     Path(RECORD).write_text(head + "".join(f"{name} {' '.join(record[name])}\n" for name in sorted(record)), "utf-8")
+
+
+class OutOfTime(Exception):
+    """No further check is to be begun."""
 
 
 def edits_in(crate):
@@ -183,36 +189,51 @@ def try_round(edits, crate, below, names, is_alone):
     return results, seconds
 
 
-def try_crate(crate, below, is_alone, checks):
-    """Tries a crate's edits in this pool, and returns its name, what is said of each edit, and the processor seconds."""
+def try_crate(crate, below, is_alone, checks, end):
+    """Tries a crate's edits in this pool, and returns its name, what is said of each edit, the processor seconds, and whether there was time for all."""
     found = {it: read_edit(f"crates/{crate}", it) for it in edits_in(crate)}
     tried = [(name, (False, f"BAD EDIT: {why}")) for name, why in found.items() if isinstance(why, str)]
-    said, seconds = proof_of(crate, below), 0
+    said, spent = proof_of(crate, below), [0]
     if not said:
-        _, said, seconds = checks.submit(check, crate, below, []).result()
+        _, said, spent[0] = checks.submit(check, crate, below, []).result()
     if not re.search(r"(?m)^logic=proved", said):
-        return crate, [(it, (False, "BAD CRATE: it is not proved as it stands")) for it in found], seconds
+        return crate, [(it, (False, "BAD CRATE: it is not proved as it stands")) for it in found], spent[0], True
     names, alone = re.findall(r"(?m)^fn (\S+): proved$", said), []
-    rounds = rounds_of([it for it in found.values() if isinstance(it, Edit)], is_alone)
-    for edits, (results, more) in zip(rounds, checks.map(lambda it: try_round(it, crate, below, names, is_alone), rounds)):
-        seconds += more
-        tried += [(edit.name, result) for edit, result in zip(edits, results) if result]
-        alone += [edit for edit, result in zip(edits, results) if not result]
-    for edit, ((result,), more) in zip(alone, checks.map(lambda it: try_round([it], crate, below, names, is_alone), alone)):
-        seconds += more
-        tried.append((edit.name, result))
-    return crate, tried, seconds
+
+    def results_of(rounds):
+        """Tries these groups of edits, and yields what is said of each; fails where the time is over."""
+
+        def begun(edits):
+            if time.monotonic() > end:
+                raise OutOfTime
+            return try_round(edits, crate, below, names, is_alone)
+
+        for edits, (results, more) in zip(rounds, checks.map(begun, rounds)):
+            spent[0] += more
+            yield from zip(edits, results)
+
+    try:
+        for edit, result in results_of(rounds_of([it for it in found.values() if isinstance(it, Edit)], is_alone)):
+            tried += [(edit.name, result)] if result else []
+            alone += [] if result else [edit]
+        tried += [(edit.name, result) for edit, result in results_of([[it] for it in alone])]
+    except OutOfTime:
+        return crate, tried, spent[0], False
+    return crate, tried, spent[0], True
 
 
-def try_all(crates, below, jobs, is_alone):
-    """Tries the crates' edits, notes those of which all are refused, and returns how many edits passed and failed."""
+def try_all(crates, below, jobs, is_alone, end):
+    """Tries the crates' edits until the time is over, notes the crates of which all are refused, and returns how many edits passed and failed."""
     passed = failed = 0
     with ThreadPoolExecutor(jobs) as checks, ThreadPoolExecutor(len(crates) or 1) as pool:
-        for each in as_completed([pool.submit(try_crate, it, below[it], is_alone, checks) for it in crates]):
-            crate, tried, seconds = each.result()
+        for each in as_completed([pool.submit(try_crate, it, below[it], is_alone, checks, end) for it in crates]):
+            crate, tried, seconds, is_whole = each.result()
             for name, (is_well, why) in tried:
                 passed, failed = passed + is_well, failed + (not is_well)
                 print(f"{crate}/{name}: {why[:240]}", flush=True)
+            if not is_whole:
+                print(f"{crate}: the time was over when {len(tried)} of its {len(edits_in(crate))} edits were tried", flush=True)
+                continue
             record = read_record()
             record.pop(crate, None)
             if all(it[0] for _, it in tried):
@@ -244,6 +265,7 @@ def main():
     words.add_argument("--stale", action="store_true")
     words.add_argument("--share")
     words.add_argument("--jobs", type=int, default=1)
+    words.add_argument("--minutes", type=float, default=float("inf"))
     words.add_argument("names", nargs="*")
     words = words.parse_args()
     below = crates_below()
@@ -257,7 +279,7 @@ def main():
     else:
         wanted = [it for it in below if it in (words.names or (stale if words.changed else below)) and edits_in(it)]
         write_record({name: it for name, it in read_record().items() if name in below and edits_in(name)})
-        passed, failed = try_all(sorted(wanted, key=lambda it: -len(below[it])), below, words.jobs, words.alone)
+        passed, failed = try_all(sorted(wanted, key=lambda it: -len(below[it])), below, words.jobs, words.alone, time.monotonic() + 60 * words.minutes)
     print(f"{passed} passed, {failed} failed")
     return 1 if failed or not passed and not words.changed else 0
 

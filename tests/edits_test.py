@@ -94,6 +94,9 @@ def checks(top):
     write(top / "crates/low/src/lib.rt", LOW + "\n// A comment.\n")
     status, lines = edits(top, "--stale")
     yield "a change makes its crate's line stale, and those above", status == 1 and [it.split("'")[0].split()[-1] for it in lines[:-1]] == ["low", "upper", "open"]
+    _, lines = edits(top, "--minutes", "0", "--changed")
+    yield "without time none is tried, and that is told", {it.split(":")[0] for it in lines if "the time was over when 0 of" in it} == {"low", "upper"}
+    yield "and its line of the record stays", recorded(top) == {"low", "upper"}
 
 
 def main():
