@@ -25,10 +25,10 @@ use std::io::{ErrorKind, Stderr, Stdin};
 use std::process::ExitCode;
 use std::rt::Env;
 use std::{env, io};
-use tsc_script::Reads;
+use tsc_script::ScriptReads;
 
 fn main(rt: HostRuntime) -> ExitCode {
-    let mut input = Reads { reader: rt.stdin() };
+    let mut input = ScriptReads { reader: rt.stdin() };
     let (_, status) = match arguments(&rt) {
         Ok(arguments) => program(
             &rt,

@@ -26,7 +26,7 @@ use std::fs::File;
 use std::io::{Read, Write};
 use std::net::{Net, TcpListener, TcpStream};
 use std::rt::Files;
-use tsc_script::Source;
+use tsc_script::ScriptSource;
 
 /// Room for a line of the report or of a refusal, in bytes.
 pub const TEXT_ROOM: usize = 128;
@@ -112,7 +112,7 @@ pub fn program<
         + Copy
         + Send
         + 'static,
-    Script: Source,
+    Script: ScriptSource,
     Input: Read + Send + Drop + 'static,
     Errors: Write + Send + Drop + 'static,
     Writer: Write + Drop,
@@ -196,7 +196,7 @@ fn run<
         + Copy
         + Send
         + 'static,
-    Script: Source,
+    Script: ScriptSource,
     Input: Read + Send + Drop + 'static,
     Errors: Write + Send + Drop + 'static,
     Writer: Write + Drop,
@@ -232,7 +232,7 @@ fn run<
 }
 
 /// Runs the script by the configuration in what was read from its file.
-fn replay_by<R: Source, W: Write>(
+fn replay_by<R: ScriptSource, W: Write>(
     alloc: Global,
     file: Result<Vec<u8>, FileFault>,
     reader: &mut R,

@@ -12,8 +12,8 @@ returns g c = λ arguments.
     let course : Option (List ℕ) → Option (List ℕ) → Course = λ before after. record {
       arguments = arguments;
       file = file_of (λ v. v.items) c.args.file;
-      unread = g.R.Source.given c.args.reader.now;
-      unread_after = g.R.Source.given c.replay_run-sink.new.reader;
+      unread = g.R.ScriptSource.given c.args.reader.now;
+      unread_after = g.R.ScriptSource.given c.replay_run-sink.new.reader;
       taken = before;
       taken_after = after;
     } in

@@ -5,7 +5,7 @@ ghost use Rattle.tsc_script.specs.Instructions.{Instruction, instruction_of_comm
 use crate::command::ScriptCommand;
 
 /// What a script drives.
-pub trait Machine {
+pub trait ScriptPlayer {
     /// That these instructions, played in order, may lead from one state to another.
     ghost leads: { Self → List Instruction → Self → Type 0 };
 

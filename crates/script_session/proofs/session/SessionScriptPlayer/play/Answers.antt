@@ -2,7 +2,7 @@ use Rattle.std.proofs.Common.{◌∙◌, ℕ, Bool, subst}
 use Rattle.tsc_script.specs.Instructions.{instruction_of_command}
 use Rattle.script_run.specs.World.{Plays}
 use Rattle.script_session.proofs.Quiet.{PlaysAll-push}
-use Rattle.script_session.proofs.session.SessionMachine.play.Goals as goal
+use Rattle.script_session.proofs.session.SessionScriptPlayer.play.Goals as goal
 
 pub returns-clause-played : goal.returns-clause-played
 returns-clause-played g c = λ start done before. (
