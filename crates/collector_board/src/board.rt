@@ -2,12 +2,13 @@
 use batch_post::AttemptOutcome;
 use drop_ledger::{Count, Report};
 use event_log::Level;
-use lane_queue::{Brake, Gate, GatePlace, ShardLoad};
+use lane_queue::Brake;
 use metrics_text::{PolicyNumbers, ShardNumbers};
 use otlp_types::{Text, TryClone};
 use policy_tree::Policies;
 use std::alloc::{AllocError, Global};
 use std::sync::atomic::{AtomicBool, AtomicU64, Ordering};
+use thread_watch::{Barrier, ShardLoad, Watcher};
 
 /// The number of counts in a report.
 const PLACES: usize = 9;
@@ -373,13 +374,9 @@ fn policy_cells(alloc: Global, policies: &Policies) -> Result<Vec<PolicyCells>, 
     Ok(cells)
 }
 
-impl Gate for Board {
-    fn reach(&self, _place: GatePlace) {}
+impl Barrier for Board {}
 
-    fn brake(&self) -> Option<&Brake> {
-        Some(&self.brake)
-    }
-
+impl Watcher for Board {
     fn counted(&self, place: usize, spans: u64) {
         // The thread has it in its own report already, which is the one that is printed (D-195).
         self.cell(place).fetch_add(spans, Ordering::Relaxed);

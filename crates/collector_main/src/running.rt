@@ -74,9 +74,11 @@ fn print_with<'s, T: Net + Machine, W: Write + Drop>(
     let context = RunContext {
         rt,
         alloc,
-        gate: &shared.board,
+        observer: &shared.board,
+        brake: Some(shared.board.brake()),
         stop: &shared.stop,
         clock: &clock,
+        answers: &shared.loads.traffic.answers,
     };
     let (lines, answer, _) = serve_on(&context, config, drivers, lines);
     let sink = lines.end();

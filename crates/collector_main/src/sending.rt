@@ -176,9 +176,11 @@ fn serve_through<'s, D: Driver + Send + Drop, T: Machine, Output: Destination + 
     let context = RunContext {
         rt,
         alloc,
-        gate: &shared.board,
+        observer: &shared.board,
+        brake: Some(shared.board.brake()),
         stop: &shared.stop,
         clock: &clock,
+        answers: &shared.loads.traffic.answers,
     };
     let (destination, answer, _) = serve_on(&context, config, drivers, destination);
     (destination, answer)

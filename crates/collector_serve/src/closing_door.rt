@@ -54,7 +54,8 @@ impl LateClient {
             if self.stream.write_all(text).is_err() {
                 return false;
             }
-            traffic.went(text);
+            traffic.went(text.len());
+            traffic.answers.add(503);
             if self.stream.shutdown(Shutdown::Write).is_err() {
                 return false;
             }

@@ -153,7 +153,7 @@ fn numbers_of(charge: &Charge) -> [u64; 7] {
         report.number(Count::Dropped(Reason::QueueFull)),
         report.number(Count::Dropped(Reason::NoMemory)),
         report.number(Count::Dropped(Reason::Evicted)),
-        traffic.answered(503),
+        traffic.answers.answered(503),
         traffic.closed_idle(),
         traffic.lacked_file(),
         report.number(Count::Dropped(Reason::ExporterDown)),

@@ -107,6 +107,16 @@ answer_text r closes is_head = if is_head then head_text r closes else head_text
 abbrev pub continue_text : List ℕ
 continue_text = codes "HTTP/1.1 100 Continue\r\n\r\n"
 
+-- the status of what is answered
+abbrev pub status_of_answer : Response → ℕ
+status_of_answer Continue = 100
+status_of_answer (Refused r is_head) = (refusal_row Json r).status
+status_of_answer CloseAsked = done_row.status
+status_of_answer Starved = (busy_row Json).status
+status_of_answer Stopping = (closing_row Json).status
+status_of_answer TimedOut = (timeout_row Json).status
+status_of_answer (Replied reply closes) = (reply_row Json reply).status
+
 -- the bytes of what is answered
 abbrev pub text_of_answer : Encoding → Response → List ℕ
 text_of_answer encoding Continue = continue_text

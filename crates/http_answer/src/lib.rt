@@ -9,4 +9,4 @@ mod response;
 mod texts;
 
 pub use response::Response;
-pub use texts::{stopping_text, text_of};
+pub use texts::{status_of, stopping_text, text_of};

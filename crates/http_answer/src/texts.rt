@@ -1,7 +1,7 @@
 //! The bytes of answers.
 ghost use Rattle.std.specs.Prelude.{◌≡◌, ℕ, List, true, false, IfOk, length, string_bytes};
 ghost use Rattle.otlp_encoding.specs.MediaTypes.{media_type};
-ghost use Rattle.http_answer.specs.Answer.{text_of_answer, answer_text, head_text, row_naming, told_row, told_row_naming, refusal_row, reply_row, reason_of, closing_row, own_field, optional, joined_text, continue_text};
+ghost use Rattle.http_answer.specs.Answer.{text_of_answer, status_of_answer, answer_text, head_text, row_naming, told_row, told_row_naming, refusal_row, reply_row, reason_of, closing_row, own_field, optional, joined_text, continue_text};
 
 use crate::response::Response;
 use http_text::RequestRefusal;
@@ -271,6 +271,20 @@ pub fn text_of(alloc: Global, encoding: Encoding, answer: &Response) -> Result<V
             closing_text(alloc, encoding, 408, "Request Timeout", "request timeout")
         }
         Response::Replied { reply, closes } => reply_text(alloc, encoding, reply, *closes),
+    }
+}
+
+/// The status of an answer, or of the interim line (RFC 9110, section 15).
+pub fn status_of(answer: &Response) -> u16
+    ensures { result ≡ status_of_answer answer.now }
+{
+    match answer {
+        Response::Continue => 100,
+        Response::Refused { refusal, .. } => refusal_row(*refusal).0,
+        Response::CloseAsked => 200,
+        Response::Starved | Response::Stopping => 503,
+        Response::TimedOut => 408,
+        Response::Replied { reply, .. } => status(reply),
     }
 }
 

@@ -5,13 +5,14 @@
 //! are those of a transcript (`specs/Connection`, `specs/Turns`), in whatever pieces the bytes came.
 //!
 //! ```
-//! let lent = Lent { alloc, stop: &mark, clock: &clock };
+//! let lent = Lent { alloc, stop: &mark, clock: &clock, answers: &answers };
 //! let mut reader = Reads { reader: stream, allowed };
 //! let end = serve(&lent, &mut lane, &mut report, &mut reader, &mut writer);
 //! ```
 #![tactic(auto)]
 
 mod answer;
+mod answers;
 mod engine;
 mod input;
 mod laws;
@@ -24,6 +25,7 @@ mod stage;
 mod turns;
 
 pub use answer::{QUIET_LIMIT, READ_LIMIT, REQUEST_LIMIT, ReadTurn, SLOW_LIMIT, ServeEnd};
+pub use answers::Answers;
 pub use laws::{
     doors_do_not_matter, in_any_pieces, pieces_do_not_matter, replies_are_determined,
     turns_do_not_matter, turns_in_any_pieces, whole_connections,

@@ -15,14 +15,13 @@ use crate::lent::{Clock, HasStopMark, Lent};
 use crate::reads::{PIECE_LIMIT, Source};
 use crate::requests::Requests;
 use drop_ledger::Counter;
-use http_answer::{Response, text_of};
+use http_answer::{Response, status_of, text_of};
 use http_text::RequestRefusal;
 use inflate::{GzipFault, gunzip};
 use lane_queue::Port;
 use lane_seq::{Conn, Lane, Reply, count_reply};
 use otlp_encoding::Encoding;
 use otlp_types::Item;
-use std::alloc::Global;
 use std::io::Write;
 
 /// Writes the whole text, unless a write fails.
@@ -40,9 +39,9 @@ fn write_text<W: Write>(writer: &mut W, text: &[u8]) -> EventFate
     EventFate::Written
 }
 
-/// Writes an answer in an encoding.
-pub(crate) fn answer<W: Write>(
-    alloc: Global,
+/// Writes an answer in an encoding, and counts it.
+pub(crate) fn answer<'l, W: Write, S, K>(
+    lent: &Lent<'l, S, K>,
     encoding: Encoding,
     writer: &mut W,
     answer: &Response,
@@ -50,10 +49,14 @@ pub(crate) fn answer<W: Write>(
     ensures puts { Puts (W.contents writer.old) (W.contents writer.new) result (text_of_answer encoding answer.now) }
     ensures fate { IsFateOfText result }
 {
-    match text_of(alloc, encoding, answer) {
-        Ok(text) => write_text(writer, text.as_slice()),
-        Err(_) => EventFate::Unmade,
+    let Ok(text) = text_of(lent.alloc, encoding, answer) else {
+        return EventFate::Unmade;
+    };
+    let fate = write_text(writer, text.as_slice());
+    if matches!(fate, EventFate::Written) {
+        lent.answers.add(status_of(answer));
     }
+    fate
 }
 
 /// How an event ends the connection.
@@ -97,7 +100,7 @@ fn submit<
         reply,
         closes: says_close,
     };
-    (says_close, answer(lent.alloc, encoding, writer, &replied))
+    (says_close, answer(lent, encoding, writer, &replied))
 }
 
 /// The answer to a packed body that gives no text.
@@ -150,7 +153,7 @@ fn unpack<
             text.as_slice(),
             says_close,
         ),
-        Err(fault) => (true, answer(lent.alloc, encoding, writer, &unfit(fault))),
+        Err(fault) => (true, answer(lent, encoding, writer, &unfit(fault))),
     }
 }
 
@@ -177,17 +180,11 @@ fn respond<
     ensures { (given : Option (List ℕ)) → Sees body.entry given → Responds (Submits ShardPort.takes ShardPort.refuses) (Writer.contents writer.old) (Writer.contents writer.new) (intake lane.old conn.old (Ledger.counted counts.old)) (intake lane.new conn.new (Ledger.counted counts.new)) encoding limit is_packed given says_close result }
 {
     let Some(body) = body else {
-        return (
-            true,
-            answer(lent.alloc, encoding, writer, &Response::Starved),
-        );
+        return (true, answer(lent, encoding, writer, &Response::Starved));
     };
     // Asked once the body is whole, before it is unpacked and before the clock is asked (D-120, D-125).
     if lent.stop.is_set() {
-        return (
-            true,
-            answer(lent.alloc, encoding, writer, &Response::Stopping),
-        );
+        return (true, answer(lent, encoding, writer, &Response::Stopping));
     }
     if is_packed {
         return unpack(
@@ -223,21 +220,21 @@ fn act<
         Brought::Nothing => None,
         Brought::Refused { refusal, is_head } => {
             let refused = Response::Refused { refusal, is_head };
-            Some((true, answer(lent.alloc, encoding, writer, &refused), true))
+            Some((true, answer(lent, encoding, writer, &refused), true))
         }
         Brought::Close => {
             // Before the answer is made, so also where there is no memory for that (D-124).
             lent.stop.set();
             Some((
                 true,
-                answer(lent.alloc, encoding, writer, &Response::CloseAsked),
+                answer(lent, encoding, writer, &Response::CloseAsked),
                 true,
             ))
         }
         Brought::Accepted { awaited: true } => {
             Some((
                 false,
-                answer(lent.alloc, encoding, writer, &Response::Continue),
+                answer(lent, encoding, writer, &Response::Continue),
                 false,
             ))
         }
@@ -317,8 +314,8 @@ pub(crate) fn is_over(since: u64, limit: u64, now: u64) -> bool
 }
 
 /// Answers a request under way, of which nothing came, with 408 once `limit` has passed since a moment.
-pub(crate) fn lapse<W: Write>(
-    alloc: Global,
+pub(crate) fn lapse<'l, W: Write, S, K>(
+    lent: &Lent<'l, S, K>,
     encoding: Encoding,
     writer: &mut W,
     since: u64,
@@ -328,24 +325,23 @@ pub(crate) fn lapse<W: Write>(
     ensures { (r : RequestReading) → encoding ≡ encoding_in r → Lapses (W.contents writer.old) (W.contents writer.new) r (since + limit) now result }
 {
     if is_over(since, limit, now) {
-        let told = answer(alloc, encoding, writer, &Response::TimedOut);
+        let told = answer(lent, encoding, writer, &Response::TimedOut);
         return end_with(told, true);
     }
     None
 }
 
 /// Deals with a quiet turn, the last of `row` in a row.
-fn wait<E: Engine, W: Write, S: HasStopMark>(
-    alloc: Global,
+fn wait<'l, E: Engine, W: Write, S: HasStopMark, K>(
+    lent: &Lent<'l, S, K>,
     engine: &E,
     writer: &mut W,
-    stop: &S,
     row: u64,
 ) -> Option<ServeEnd>
     ensures { (s : ConnectionStanding) → E.awaits engine.now s.reading → row ≡ s.row + 1 → Waits (W.contents writer.old) (W.contents writer.new) s row result }
 {
     if engine.is_between() {
-        if stop.is_set() {
+        if lent.stop.is_set() {
             return Some(ServeEnd::Stopped);
         }
         if row >= QUIET_LIMIT {
@@ -353,7 +349,7 @@ fn wait<E: Engine, W: Write, S: HasStopMark>(
         }
         return None;
     }
-    lapse(alloc, engine.encoding(), writer, 0, SLOW_LIMIT, row)
+    lapse(lent, engine.encoding(), writer, 0, SLOW_LIMIT, row)
 }
 
 /// How a connection ends at the end of its stream: between requests, or within one.
@@ -403,7 +399,7 @@ fn serve_turns<
             }
             ReadTurn::Quiet => {
                 row += 1;
-                if let Some(end) = wait(lent.alloc, engine, writer, lent.stop, row) {
+                if let Some(end) = wait(lent, engine, writer, row) {
                     return end;
                 }
             }

@@ -134,11 +134,10 @@ impl Exchange {
     }
 
     /// A turn that brought nothing.
-    pub fn waited<W: Write, S: HasStopMark>(
+    pub fn waited<'l, W: Write, S: HasStopMark, K>(
         &self,
-        alloc: Global,
+        lent: &Lent<'l, S, K>,
         writer: &mut W,
-        stop: &S,
         moment: u64,
     ) -> Option<ServeEnd>
         ensures turn { (allowed : Allowed) (w : Waiting) → AwaitsBy allowed Awaits self.now.engine w.reading → self.now.since ≡ w.since
@@ -146,7 +145,7 @@ impl Exchange {
             × (bytes : List ℕ) × Appends (W.contents writer.old) (W.contents writer.new) bytes × Writes events bytes × (submissions events ≡ []) }
     {
         if self.is_between() {
-            if stop.is_set() {
+            if lent.stop.is_set() {
                 return Some(ServeEnd::Stopped);
             }
             if is_over(self.since, IDLE_LIMIT, moment) {
@@ -155,7 +154,7 @@ impl Exchange {
             return None;
         }
         lapse(
-            alloc,
+            lent,
             self.encoding(),
             writer,
             self.since,

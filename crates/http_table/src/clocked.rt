@@ -9,7 +9,7 @@ use crate::column::bytes_of;
 use crate::peers::{Mark, Ticks};
 use crate::trial::{lane_of, name_of};
 use drop_ledger::Report;
-use http_lane::{HasStopMark, Lent, ServeEnd};
+use http_lane::{Answers, HasStopMark, Lent, ServeEnd};
 use http_text::Allowed;
 use lane_turns::{Done, Driver, Leaving, Next, serve_turns};
 use std::alloc::{AllocError, Global};
@@ -155,10 +155,12 @@ pub fn holds<R: Wait + Clock>(rt: &R, alloc: Global, line: &str) -> Result<bool,
         end: None,
         is_short: false,
     };
+    let answers = Answers::new();
     let lent = Lent {
         alloc,
         stop: &mark,
         clock: &clock,
+        answers: &answers,
     };
     serve_turns(rt, &lent, PLAIN, &mut script, &mut lane, &mut report);
     let wanted = end.split_once('@').unwrap_or((end, ""));

@@ -6,7 +6,7 @@ use crate::peers::{Mark, Tail, Ticks};
 use crate::row::Row;
 use crate::trial::{both, lane_of, name_of, queued};
 use drop_ledger::{Count, Report};
-use http_lane::{Lent, ServeEnd};
+use http_lane::{Answers, Lent, ServeEnd};
 use lane_turns::{Done, Driver, Leaving, Next, serve_turns};
 use span_ids::Reason;
 use std::alloc::{AllocError, Global};
@@ -199,10 +199,12 @@ fn comes<R: Wait + Clock>(
         taken: 0,
         told: 0,
     };
+    let answers = Answers::new();
     let lent = Lent {
         alloc,
         stop: &mark,
         clock: &clock,
+        answers: &answers,
     };
     serve_turns(
         rt,

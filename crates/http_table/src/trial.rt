@@ -4,7 +4,7 @@ ghost use Rattle.std.specs.Prelude.{◌≡◌, ◌<◌, IfOk};
 use crate::peers::{Mark, Page, Pieces, Ticks};
 use crate::row::{Outcome, Row, Setup};
 use drop_ledger::{Count, Report};
-use http_lane::{Lent, Reads, ServeEnd, serve};
+use http_lane::{Answers, Lent, Reads, ServeEnd, serve};
 use lane_queue::ListPort;
 use lane_seq::Lane;
 use otlp_types::Item;
@@ -118,10 +118,12 @@ pub fn served(alloc: Global, setup: &Setup, input: &[u8], way: Way) -> Result<Ca
     let clock = Ticks {
         asked: Cell::new(0),
     };
+    let answers = Answers::new();
     let lent = Lent {
         alloc,
         stop: &mark,
         clock: &clock,
+        answers: &answers,
     };
     let end = serve(&lent, &mut lane, &mut report, &mut reader, &mut page);
     let (pushed, last, moment) = queued(lane);

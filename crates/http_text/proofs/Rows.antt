@@ -1,6 +1,6 @@
 -- Worked rows, computed: where a head ends and how many fields it has, what its parts come to, and the limits.
 -- They serve the definitions that `judge` and `cut_on` promise.
-use Rattle.std.proofs.Common.{◌≡◌, ◌++◌, true, false, refl, List, ℕ, Some, None, [], ◌∷◌, arith}
+use Rattle.std.proofs.Common.{◌≡◌, ◌++◌, true, false, refl, List, ℕ, Some, None, [], ◌∷◌, arith, rules}
 use Rattle.std.specs.Prelude.{codes, map}
 use Rattle.otlp_encoding.specs.declared.encoding.Encoding.{Encoding}
 use Rattle.otlp_encoding.specs.declared.encoding.Encoding.TheVariants.{Json, Protobuf}
@@ -11,12 +11,12 @@ use Rattle.http_text.specs.declared.request.HeadVerdict.{HeadVerdict}
 use Rattle.http_text.specs.declared.request.HeadVerdict.TheVariants.{Refused, Close, Post as Posted}
 use Rattle.http_text.specs.declared.request.RequestRefusal.TheVariants.{BadRequest, NotFound, MethodNotAllowed, Forbidden, UnsupportedMediaType, NeitherMediaType, GzipIsOff, UnsupportedCoding, NeitherCoding, BodyTooLarge}
 use Rattle.http_text.specs.declared.request.Framing.TheVariants.{Length, Chunked}
-use Rattle.http_text.specs.Body.{BySize, waits, refuses}
+use Rattle.http_text.specs.Body.{BySize, GivesSize, waits, refuses}
 use Rattle.http_text.specs.Lines.{head_len, trailer_len, line_len, blank_len}
 use Rattle.http_text.specs.Fields.{Header, coding_of, elements, framing, is_plain, is_packed, is_taken, is_own_host, is_own_origin, is_own_site}
 use Rattle.http_text.specs.Head.{fits, posted, routed, verdict_by, field_lines}
 use Rattle.http_text.specs.Host.{is_host}
-use Rattle.httparse.specs.Grammar.{trim_ows}
+use Rattle.httparse.specs.Grammar.{ChunkLine, print_chunk_line, trim_ows}
 use Rattle.httparse.specs.Ascii.{crlf_bytes}
 
 -- what is allowed by default; with packed bodies; where an address of its own closes; with bodies of 20 MiB, or of 7
@@ -395,3 +395,11 @@ encodings_by_type : posted with_protobuf (codes "POST") (protobuf_field ∷ []) 
     ≡ post_in Protobuf ∷ post_in Json ∷ Refused NeitherMediaType false ∷ Refused NeitherMediaType false ∷ Refused UnsupportedMediaType false ∷ []
 unfolding trim_ows json_field
 encodings_by_type = refl
+
+-- the line of a chunk: its digits to the base sixteen, whatever stands behind them
+abbrev sized_line : ChunkLine
+sized_line = record { digits = codes "2f"; pad = codes " \t"; extension = Some (codes "a=b") }
+
+size_of_a_line : GivesSize (codes "2f \t;a=b\r\n") 47
+unfolding print_chunk_line
+size_of_a_line = (sized_line, (record { digits = (omega (arith), omega (arith), search rules); pad = search rules; extension = search rules }, refl), refl)

@@ -1,6 +1,7 @@
 //! Which connection has its turn next.
 ghost use Rattle.std.specs.Prelude.{◌≡◌, ◌<◌, ◌≤◌, Some, IfOk, length, ⊤};
 ghost use Rattle.lane_turns.specs.Driving.{FitsNext};
+ghost use Rattle.lane_driver.specs.Heard.{AllStay, Hears, MayEnd, PutsText, SendTheSame};
 
 use crate::link::{ConnectionSocket, Got, Looked, Phase, SocketStep, TurnResult};
 use crate::links::Links;
@@ -97,7 +98,9 @@ impl<'l, P: HasStopMark> TurnDriver<'l, P> {
     }
 
     /// Closes the socket at this place.
-    fn forget(&mut self, place: usize) {
+    fn forget(&mut self, place: usize)
+        ensures ends { MayEnd place self.old.links.slab self.new.links.slab }
+    {
         self.links.remove(place);
         if self.current == Some(place) {
             self.current = None;
@@ -105,7 +108,9 @@ impl<'l, P: HasStopMark> TurnDriver<'l, P> {
     }
 
     /// The link at this place goes on so.
-    fn goes(&mut self, place: usize, step: SocketStep) {
+    fn goes(&mut self, place: usize, step: SocketStep)
+        ensures ends { MayEnd place self.old.links.slab self.new.links.slab }
+    {
         if self.current == Some(place) {
             self.current = None;
         }
@@ -117,7 +122,9 @@ impl<'l, P: HasStopMark> TurnDriver<'l, P> {
     }
 
     /// The next walk comes no later than the deadline of the link at this place.
-    fn watch_deadline(&mut self, place: usize) {
+    fn watch_deadline(&mut self, place: usize)
+        ensures same { SendTheSame self.old.links.slab self.new.links.slab }
+    {
         if let Some(link) = self.links.get(place) {
             self.walk.comes_by(link.deadline());
         }
@@ -363,37 +370,32 @@ impl<'l, P: HasStopMark> TurnDriver<'l, P> {
     }
 
     /// The lane took the connection that came, under this key. If it gets no link the lane is told that it leaves.
-    fn took(&mut self, key: Option<usize>) {
-        let (Some(key), Some(stream)) = (key, self.arrived.take()) else {
+    fn took(&mut self, key: Option<usize>)
+        ensures stay { AllStay self.old.links.slab self.new.links.slab }
+    {
+        let (Some(key), Some(mut stream)) = (key, self.arrived.take()) else {
             return;
         };
+        if !self.readiness.watch(&mut stream, self.links.next_place()) {
+            self.orphan = Some(key);
+            return;
+        }
         let until = self.now.saturating_add(IDLE_LIMIT);
         let link = ConnectionSocket::new(self.alloc, stream, key, until);
         let Some(place) = self.links.insert(link) else {
             self.orphan = Some(key);
             return;
         };
-        let is_watched = match self.links.get_mut(place) {
-            Some(link) => self.readiness.watch(&mut link.stream, place),
-            None => false,
-        };
-        if !is_watched {
-            self.forget(place);
-            self.orphan = Some(key);
-            return;
-        }
         self.watch_deadline(place);
         self.links.list(place);
     }
 
     /// The connection of the link at the place that was told had a turn.
-    fn turned(&mut self, end: Option<ServeEnd>, due: u64, is_idle: bool, text: &[u8]) {
+    fn turned(&mut self, end: Option<ServeEnd>, due: u64, is_idle: bool, text: &[u8])
+        ensures puts { PutsText self.old.told text.now end self.old.links.slab self.new.links.slab }
+    {
         let (place, moment) = (self.told, self.now);
-        self.links.traffic().went(text);
-        let Some(link) = self.links.get_mut(place) else {
-            return;
-        };
-        let key = link.key;
+        self.links.traffic().went(text.len());
         let turn = TurnResult {
             end,
             due,
@@ -401,15 +403,16 @@ impl<'l, P: HasStopMark> TurnDriver<'l, P> {
             text,
             moment,
         };
-        match link.turned(&turn) {
-            Ok(Some(step)) => self.goes(place, step),
-            Ok(None) => self.watch_deadline(place),
-            Err(_) => {
+        match self.links.turned(place, &turn) {
+            Some(Ok(Some(step))) => self.goes(place, step),
+            Some(Ok(None)) => self.watch_deadline(place),
+            Some(Err(key)) => {
                 self.forget(place);
                 if end.is_none() {
                     self.orphan = Some(key);
                 }
             }
+            None => {}
         }
     }
 }
@@ -417,7 +420,7 @@ impl<'l, P: HasStopMark> TurnDriver<'l, P> {
 impl<'l, P: HasStopMark> Driver for TurnDriver<'l, P> {
     ghost asks = { λ old next moment piece new. ⊤ };
 
-    ghost hears = { λ old done text new. ⊤ };
+    ghost hears = { λ old done text new. Hears old.told old.links.slab done text new.links.slab };
 
     fn next<R: Wait + Clock>(&mut self, rt: &R, piece: &mut [u8]) -> (Next, u64) {
         for _ in rt.forever() {

@@ -1,5 +1,5 @@
 //! A connection's socket.
-ghost use Rattle.std.specs.Prelude.{◌≡◌, ◌<◌, ◌≤◌, ◌++◌, ℕ, List, [], None, Ok, OnOk, OnErr, IfOk, length};
+ghost use Rattle.std.specs.Prelude.{◌≡◌, ◌<◌, ◌≤◌, ◌++◌, ℕ, List, [], None, is_none, true, Ok, OnOk, OnErr, IfOk, length};
 ghost use Rattle.lane_driver.specs.Looks.{before_read, deadline, is_sent, looked};
 
 use crate::looks::{before_read, looked};
@@ -178,6 +178,7 @@ impl ConnectionSocket {
         ensures put { result ≡ Ok None → self.new.outgoing ≡ self.old.outgoing ++ turn.now.text.now }
         ensures sends { IfOk result (λ _. (sent : List ℕ) × (self.old.outgoing ++ turn.now.text.now ≡ sent ++ self.new.outgoing)) }
         ensures kept { OnErr result (self.new.outgoing ≡ self.old.outgoing) }
+        ensures goes_on { is_none turn.now.end ≡ true → IfOk result (λ _. self.new.outgoing ≡ self.old.outgoing ++ turn.now.text.now) }
     {
         if !turn.text.is_empty() {
             self.answer(turn.text, turn.moment)?;

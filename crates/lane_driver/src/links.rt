@@ -1,8 +1,9 @@
 //! The sockets of a lane's connections.
-ghost use Rattle.std.specs.Prelude.{◌≡◌, ◌≤◌, ◌<◌, ◌+◌, IfSome, IsFalse, IsTrue};
+ghost use Rattle.std.specs.Prelude.{◌≡◌, ◌≢◌, ◌≤◌, ◌<◌, ◌+◌, ℕ, [], None, Some, IfErr, IfNone, IfOk, IfSome, IsFalse};
 ghost use Rattle.slab.specs.Slab.{slab_len};
+ghost use Rattle.lane_driver.specs.Heard.{AllStay, MayEnd, PutsText, SendTheSame, unsent};
 
-use crate::link::{ConnectionSocket, Phase};
+use crate::link::{ConnectionSocket, Phase, SocketStep, TurnResult};
 use crate::loads::Loads;
 use crate::readiness::NAP;
 use crate::traffic::Traffic;
@@ -103,10 +104,16 @@ impl Links {
         self.slab.get_mut(place)
     }
 
+    /// The place of the next one.
+    pub fn next_place(&self) -> usize {
+        self.slab.vacant_key()
+    }
+
     /// One more, and its place. `None`: there is no memory for it, or more are open than may be.
     pub fn insert(&mut self, link: ConnectionSocket) -> Option<usize>
         ensures room { IfSome result (λ _. slab_len self.new.slab ≤ self.new.limit + 1) }
         ensures limit { self.new.limit ≡ self.old.limit }
+        ensures stay { AllStay self.old.slab self.new.slab }
     {
         if self.is_beyond_limit() {
             return None;
@@ -117,9 +124,31 @@ impl Links {
         Some(place)
     }
 
+    /// The connection of the link at this place had a turn; where that ended it, how it goes on. `None`: there is no link.
+    /// `Err`: there is no memory to keep what is to be sent, and the key is that of the connection.
+    pub fn turned(
+        &mut self,
+        place: usize,
+        turn: &TurnResult<'_>,
+    ) -> Option<Result<Option<SocketStep>, usize>>
+        ensures put { IfSome result (λ put. IfOk put (λ _. PutsText place turn.now.text.now turn.now.end self.old.slab self.new.slab)) }
+        ensures kept { IfSome result (λ put. IfErr put (λ _. SendTheSame self.old.slab self.new.slab)) }
+        ensures none { IfNone result (SendTheSame self.old.slab self.new.slab × (unsent self.old.slab place ≡ None)) }
+        ensures limit { self.new.limit ≡ self.old.limit }
+    {
+        let link = self.slab.get_mut(place)?;
+        let key = link.key;
+        match link.turned(turn) {
+            Ok(step) => Some(Ok(step)),
+            Err(_) => Some(Err(key)),
+        }
+    }
+
     /// Closes the socket at this place.
     pub fn remove(&mut self, place: usize)
         ensures limit { self.new.limit ≡ self.old.limit }
+        ensures gone { unsent self.new.slab place ≡ None }
+        ensures others { (other : ℕ) → other ≢ place → unsent self.new.slab other ≡ unsent self.old.slab other }
     {
         let _ = self.slab.try_remove(place);
         self.loads.set(self.lane, self.slab.len());
@@ -128,6 +157,7 @@ impl Links {
     /// The link at this place is to be served.
     pub fn list(&mut self, place: usize)
         ensures limit { self.new.limit ≡ self.old.limit }
+        ensures same { SendTheSame self.old.slab self.new.slab }
     {
         let mut is_new = false;
         if let Some(link) = self.slab.get_mut(place) {
@@ -142,6 +172,7 @@ impl Links {
 
     fn unlist(&mut self, place: usize)
         ensures limit { self.new.limit ≡ self.old.limit }
+        ensures same { SendTheSame self.old.slab self.new.slab }
     {
         if let Some(link) = self.slab.get_mut(place) {
             link.is_listed = false;

@@ -1,25 +1,15 @@
 //! What came and went on all connections.
+use http_lane::Answers;
 use std::sync::atomic::{AtomicU64, Ordering};
-
-/// The beginning of an answer, in front of its status (RFC 9112, section 4). No body has this text.
-const START: &[u8] = b"HTTP/1.1 ";
 
 /// Bytes that came and went, how many requests were answered with each status, and what became of connections. All
 /// lanes add to it, and numbers only grow. No contract rests on it.
 #[derive(Drop)]
 pub struct Traffic {
+    /// How many requests were answered with each status.
+    pub answers: Answers,
     received: AtomicU64,
     sent: AtomicU64,
-    ok: AtomicU64,
-    bad_request: AtomicU64,
-    not_found: AtomicU64,
-    method_not_allowed: AtomicU64,
-    request_timeout: AtomicU64,
-    content_too_large: AtomicU64,
-    unsupported_media_type: AtomicU64,
-    head_too_large: AtomicU64,
-    unavailable: AtomicU64,
-    others: AtomicU64,
     closed_idle: AtomicU64,
     lacked_file: AtomicU64,
 }
@@ -28,18 +18,9 @@ impl Traffic {
     /// Nothing came.
     pub fn new() -> Self {
         Traffic {
+            answers: Answers::new(),
             received: AtomicU64::new(0),
             sent: AtomicU64::new(0),
-            ok: AtomicU64::new(0),
-            bad_request: AtomicU64::new(0),
-            not_found: AtomicU64::new(0),
-            method_not_allowed: AtomicU64::new(0),
-            request_timeout: AtomicU64::new(0),
-            content_too_large: AtomicU64::new(0),
-            unsupported_media_type: AtomicU64::new(0),
-            head_too_large: AtomicU64::new(0),
-            unavailable: AtomicU64::new(0),
-            others: AtomicU64::new(0),
             closed_idle: AtomicU64::new(0),
             lacked_file: AtomicU64::new(0),
         }
@@ -51,14 +32,9 @@ impl Traffic {
         self.received.fetch_add(bytes as u64, Ordering::Relaxed);
     }
 
-    /// These answers are sent: none, or some one behind the other.
-    pub fn went(&self, text: &[u8]) {
-        self.sent.fetch_add(text.len() as u64, Ordering::Relaxed);
-        for at in 0..text.len() {
-            if let Some(rest) = text[at..].strip_prefix(START) {
-                self.cell(status_of(rest)).fetch_add(1, Ordering::Relaxed);
-            }
-        }
+    /// This number of bytes of answers is sent.
+    pub fn went(&self, bytes: usize) {
+        self.sent.fetch_add(bytes as u64, Ordering::Relaxed);
     }
 
     /// The connection that was idle longest is closed for another one.
@@ -89,36 +65,5 @@ impl Traffic {
     /// How many bytes of answers there were.
     pub fn sent(&self) -> u64 {
         self.sent.load(Ordering::Relaxed)
-    }
-
-    /// How many answers had this status: 200, 400, 404, 405, 408, 413, 415, 431 or 503. Of another it is how many had
-    /// none of these.
-    pub fn answered(&self, status: u64) -> u64 {
-        self.cell(status).load(Ordering::Relaxed)
-    }
-
-    fn cell(&self, status: u64) -> &AtomicU64 {
-        match status {
-            200 => &self.ok,
-            400 => &self.bad_request,
-            404 => &self.not_found,
-            405 => &self.method_not_allowed,
-            408 => &self.request_timeout,
-            413 => &self.content_too_large,
-            415 => &self.unsupported_media_type,
-            431 => &self.head_too_large,
-            503 => &self.unavailable,
-            _ => &self.others,
-        }
-    }
-}
-
-/// The number of three digits that a text begins with, or 0.
-fn status_of(text: &[u8]) -> u64 {
-    match text {
-        [a, b, c, ..] if a.is_ascii_digit() && b.is_ascii_digit() && c.is_ascii_digit() => {
-            (*a - b'0') as u64 * 100 + (*b - b'0') as u64 * 10 + (*c - b'0') as u64
-        }
-        _ => 0,
     }
 }

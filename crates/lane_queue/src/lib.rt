@@ -1,4 +1,4 @@
-//! Bounded queues from lanes to shards and from shards to the exporter, and gates that hold lanes and shards in tests.
+//! Bounded queues from lanes to shards and from shards to the exporter.
 //!
 //! [`Port`] is the end of a queue at which items are pushed. [`ListPort`] is a whole queue in one thread. Between
 //! threads [`LaneQueue`] makes a queue for each [`Sender`], and one [`Receiver`] for all of them; a [`SenderPort`] is a
@@ -24,7 +24,6 @@ mod brake;
 mod calls;
 mod ends;
 mod flow;
-mod gate;
 mod law;
 mod list_port;
 mod making;
@@ -38,7 +37,6 @@ mod sender_port;
 pub use brake::Brake;
 pub use calls::{Call, CallLog};
 pub use ends::Sender;
-pub use gate::{Gate, GatePlace, OpenGate, ShardLoad};
 pub use law::{
     few_are_held, few_overtake, none_is_overtaken, popped_then_held_is_pushed, pops_take_turns,
 };

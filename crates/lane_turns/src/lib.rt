@@ -6,7 +6,7 @@
 //! one after the other.
 //!
 //! ```
-//! let lent = Lent { alloc, stop: &mark, clock: &clock };
+//! let lent = Lent { alloc, stop: &mark, clock: &clock, answers: &answers };
 //! let is_full = serve_turns(&rt, &lent, allowed, &mut driver, &mut lane, &mut report);
 //! ```
 #![tactic(auto)]

@@ -91,7 +91,7 @@ pub(crate) fn waited<
     ensures others { (other : ℕ) → other ≢ key → get «open».new other ≡ get «open».old other }
 {
     let exchange = open.remove(key);
-    let end = exchange.waited(lent.alloc, writer, lent.stop, moment);
+    let end = exchange.waited(lent, writer, moment);
     if let Some(why) = end {
         return Some(why);
     }

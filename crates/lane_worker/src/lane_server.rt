@@ -8,12 +8,13 @@ use crate::lane_worker::serve_all;
 use drop_ledger::Counter;
 use http_lane::{Clock as MomentClock, HasStopMark, Lent};
 use http_text::Allowed;
-use lane_queue::{Gate, Room, SenderPort};
+use lane_queue::{Room, SenderPort};
 use lane_seq::Lane;
 use lane_turns::{Driver, serve_turns};
 use otlp_types::Item;
 use std::sync::Wait;
 use std::time::Clock;
+use thread_watch::Barrier;
 
 /// What serves the connections of a lane.
 pub trait LaneServer {
@@ -28,7 +29,7 @@ pub trait LaneServer {
         'r,
         QueueRoom: Room,
         Ledger: Counter,
-        Observer: Gate,
+        Observer: Barrier,
         Mark: HasStopMark,
         Time: MomentClock,
         Runtime: Wait + Clock,
@@ -39,7 +40,7 @@ pub trait LaneServer {
         number: u16,
         lane: &mut Lane<SenderPort<'r, Item, QueueRoom, Runtime>>,
         counter: &mut Ledger,
-        gate: &Observer,
+        barrier: &Observer,
     ) -> bool
         ensures served { serves QueueRoom.capacity self.old (lane_at lane.old (Ledger.counted counter.old)) self.new (lane_at lane.new (Ledger.counted counter.new)) result }
         ensures same_queues { queues lane.new.ports ≡ queues lane.old.ports };
@@ -62,7 +63,7 @@ impl<F: Acceptor> LaneServer for OneByOne<F> {
         'r,
         QueueRoom: Room,
         Ledger: Counter,
-        Observer: Gate,
+        Observer: Barrier,
         Mark: HasStopMark,
         Time: MomentClock,
         Runtime: Wait + Clock,
@@ -73,9 +74,9 @@ impl<F: Acceptor> LaneServer for OneByOne<F> {
         number: u16,
         lane: &mut Lane<SenderPort<'r, Item, QueueRoom, Runtime>>,
         counter: &mut Ledger,
-        gate: &Observer,
+        barrier: &Observer,
     ) -> bool {
-        serve_all(rt, lent, number, lane, &mut self.acceptor, counter, gate)
+        serve_all(rt, lent, number, lane, &mut self.acceptor, counter, barrier)
     }
 }
 
@@ -97,7 +98,7 @@ impl<D: Driver> LaneServer for ByTurns<D> {
         'r,
         QueueRoom: Room,
         Ledger: Counter,
-        Observer: Gate,
+        Observer: Barrier,
         Mark: HasStopMark,
         Time: MomentClock,
         Runtime: Wait + Clock,
@@ -108,9 +109,9 @@ impl<D: Driver> LaneServer for ByTurns<D> {
         _number: u16,
         lane: &mut Lane<SenderPort<'r, Item, QueueRoom, Runtime>>,
         counter: &mut Ledger,
-        _gate: &Observer,
+        _barrier: &Observer,
     ) -> bool {
-        // No gate: it holds a lane between two connections, and these are served side by side.
+        // No barrier: it holds a lane between two connections, and these are served side by side.
         serve_turns(rt, lent, self.allowed, &mut self.driver, lane, counter)
     }
 }

@@ -7,12 +7,13 @@ use crate::acceptor::Acceptor;
 use crate::lane_server::LaneServer;
 use drop_ledger::Counter;
 use http_lane::{Clock as MomentClock, HasStopMark, Lent, ServeEnd, Source, serve};
-use lane_queue::{Gate, GatePlace, Room, Sender, SenderPort};
+use lane_queue::{Room, Sender, SenderPort};
 use lane_seq::Lane;
 use otlp_types::Item;
 use std::io::Write;
 use std::sync::Wait;
 use std::time::Clock;
+use thread_watch::{Barrier, ThreadPlace};
 
 /// What is left of a lane's thread.
 #[derive(Drop)]
@@ -40,7 +41,7 @@ pub fn work<
     Server: LaneServer,
     QueueRoom: Room,
     Ledger: Counter,
-    Observer: Gate,
+    Observer: Barrier,
     Mark: HasStopMark,
     Time: MomentClock,
     Runtime: Wait + Clock,
@@ -50,7 +51,7 @@ pub fn work<
     task: LaneTask<'r, QueueRoom, Runtime>,
     server: &mut Server,
     counter: &mut Ledger,
-    gate: &Observer,
+    barrier: &Observer,
 ) -> LaneThreadEnd<QueueRoom>
     requires number { task.lane.number ≡ task.number }
     requires room { (task.room.items ≡ []) × (length task.lane.ports ≤ vec_capacity task.room) }
@@ -64,7 +65,7 @@ pub fn work<
         mut lane,
         room,
     } = task;
-    let is_full = server.serve_all(rt, lent, number, &mut lane, counter, gate);
+    let is_full = server.serve_all(rt, lent, number, &mut lane, counter, barrier);
     let senders = end_all(rt, number, lane.end().ports, room);
     LaneThreadEnd { senders, is_full }
 }
@@ -98,7 +99,7 @@ pub(crate) fn serve_all<
     Listener: Acceptor,
     QueueRoom: Room,
     Ledger: Counter,
-    Observer: Gate,
+    Observer: Barrier,
     Mark: HasStopMark,
     Time: MomentClock,
     Runtime: Wait + Clock,
@@ -109,7 +110,7 @@ pub(crate) fn serve_all<
     lane: &mut Lane<SenderPort<'r, Item, QueueRoom, Runtime>>,
     acceptor: &mut Listener,
     counter: &mut Ledger,
-    gate: &Observer,
+    barrier: &Observer,
 ) -> bool
     ensures served { HasServed Listener.gives (λ x. connection (Listener.Reader.given x.0) (Listener.Writer.contents x.1)) QueueRoom.capacity
         acceptor.old (lane_at lane.old (Ledger.counted counter.old)) acceptor.new (lane_at lane.new (Ledger.counted counter.new)) result }
@@ -123,7 +124,7 @@ pub(crate) fn serve_all<
         let Some((reader, writer)) = acceptor.next(rt) else {
             return false;
         };
-        let end = serve_next(lent, number, lane, counter, reader, writer, gate);
+        let end = serve_next(lent, number, lane, counter, reader, writer, barrier);
         if is_overflow(&end) {
             return true;
         }
@@ -149,7 +150,7 @@ fn serve_next<
     Writer: Write + Drop,
     QueueRoom: Room,
     Ledger: Counter,
-    Observer: Gate,
+    Observer: Barrier,
     Mark: HasStopMark,
     Time: MomentClock,
     Runtime: Wait + Clock,
@@ -160,7 +161,7 @@ fn serve_next<
     counter: &mut Ledger,
     reader: Reader,
     writer: Writer,
-    gate: &Observer,
+    barrier: &Observer,
 ) -> ServeEnd
     requires { lane.old.connected < 2 ^ 64 - 1 }
     ensures served { ServedOne QueueRoom.capacity (connection (Reader.given reader) (Writer.contents writer)) (lane_at lane.old (Ledger.counted counter.old)) (lane_at lane.new (Ledger.counted counter.new)) result }
@@ -169,12 +170,12 @@ fn serve_next<
     let mut reader = reader;
     let mut writer = writer;
     let ordinal = lane.connected();
-    gate.reach(GatePlace::Connected {
+    barrier.reach(ThreadPlace::Connected {
         lane: number,
         ordinal,
     });
     let end = serve(lent, lane, counter, &mut reader, &mut writer);
-    gate.reach(GatePlace::Served {
+    barrier.reach(ThreadPlace::Served {
         lane: number,
         ordinal,
     });

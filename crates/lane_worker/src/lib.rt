@@ -8,7 +8,7 @@
 //! ```
 //! let task = LaneTask { number, lane, room };
 //! let mut server = ByTurns { driver, allowed };
-//! let end = work(&rt, &lent, task, &mut server, &mut report, &gate);
+//! let end = work(&rt, &lent, task, &mut server, &mut report, &barrier);
 //! ```
 #![tactic(auto)]
 

@@ -17,7 +17,11 @@ use Rattle.lane_queue.proofs.bell.Bell.TheSendSync as bell_sent
 use Rattle.lane_queue.proofs.calls.CallLog.TheLaws.TheKnot as calls_knot
 use Rattle.lane_queue.proofs.ends.Outlet.TheSendSync as outlet_sent
 use Rattle.lane_queue.proofs.sender_port.SenderPort.TheSendSync as port_sent
+use Rattle.http_lane.proofs.answers.Answers.TheSendSync as answers_sent
+use Rattle.http_lane.specs.contracts.answers.Answers as answers
+use Rattle.lane_queue.proofs.brake.Brake.TheSendSync as brake_sent
 use Rattle.lane_queue.specs.contracts.bell.Bell as bell
+use Rattle.lane_queue.specs.contracts.brake.Brake as brake
 use Rattle.lane_queue.specs.contracts.calls.CallLog as calls
 use Rattle.lane_queue.specs.contracts.ends.Outlet as outlet
 use Rattle.lane_queue.specs.contracts.ends.Sender as sender
@@ -42,6 +46,10 @@ use Rattle.pipeline.specs.contracts.ticker_job.TickerJob as ticker_job
 -- a reference to what several threads may read
 lent_field : (a : NamedLft) (T : RattleType) → IsSync T → IsSend (row_field (ShrRef a.mir a.lft T)).row
 lent_field a T y = shr_send a.mir a.lft T y
+
+-- what may be a brake
+brake_field : (a : NamedLft) → IsSend (row_field (ShrRef a.mir a.lft brake.the_row)).row
+brake_field a = lent_field a brake.the_row brake_sent.the_sync
 
 report_field : IsSend report.the_field.row
 report_field = report_sent.the_send
@@ -80,7 +88,7 @@ module _ (a : NamedLft) (F C G P M R : RattleType) (gC : Ghosts C.Denot) (f : Is
   pub lane_job_send : IsSend (lane_job.the_row a F C G P M R gC)
   lane_job_send =
       let type = lane_job.the_type a F C G P M R gC in
-      recorded_send _ _ _ type.to_one (struct_send (shape type) (lent_field a R yR, (search sendable, (search sendable, (f, (lane_field a C R gC yR, (ends_send C gC, (lent_field a G yG, (lent_field a P yP, (lent_field a M yM, tt))))))))))
+      recorded_send _ _ _ type.to_one (struct_send (shape type) (lent_field a R yR, (search sendable, (search sendable, (f, (lane_field a C R gC yR, (ends_send C gC, (lent_field a G yG, (lent_field a P yP, (lent_field a M yM, (lent_field a answers.the_row answers_sent.the_sync, tt)))))))))))
 
 module _ (a : NamedLft) (T C R : RattleType) (gC : Ghosts C.Denot) (t : IsSend T) (yR : IsSync R) where
   pub ticker_job_send : IsSend (ticker_job.the_row a T C R gC)
@@ -92,7 +100,7 @@ module _ (a : NamedLft) (C D G R : RattleType) (gC : Ghosts C.Denot) (gD : Ghost
   pub shard_job_send : IsSend (shard_job.the_row a C D G R gC gD)
   shard_job_send =
       let type = shard_job.the_type a C D G R gC gD in
-      recorded_send _ _ _ type.to_one (struct_send (shape type) (lent_field a R yR, (search sendable, (shard_field, (seat_field a R yR, (receiver_field C gC, (sender_field D gD, (lent_field a G yG, tt))))))))
+      recorded_send _ _ _ type.to_one (struct_send (shape type) (lent_field a R yR, (search sendable, (shard_field, (seat_field a R yR, (receiver_field C gC, (sender_field D gD, (lent_field a G yG, (brake_field a, tt)))))))))
 
 module _ (a : NamedLft) (C D R : RattleType) (gC : Ghosts C.Denot) (gD : Ghosts D.Denot) (yR : IsSync R) where
   pub shard_left_send : IsSend (shard_left.the_row a C D R gC gD)

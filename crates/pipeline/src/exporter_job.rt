@@ -7,12 +7,13 @@ ghost use Rattle.run_weave.specs.Jobs.{ExporterDid};
 use crate::telling::Told;
 use drop_ledger::{Report, Tally};
 use job_threads::Job;
-use lane_queue::{Gate, Receiver, Room};
+use lane_queue::{Receiver, Room};
 use otlp_types::Shipment;
 use span_exporter::Exporter;
 use span_sink::Destination;
 use std::sync::Wait;
 use std::time::Clock;
+use thread_watch::Watcher;
 
 /// What the exporter is given.
 #[derive(Drop)]
@@ -20,7 +21,7 @@ pub struct ExporterJob<'s, Output: Destination, ExportRoom: Room, Observer, Runt
     pub rt: &'s Runtime,
     pub exporter: Exporter<Output>,
     pub receiver: Receiver<Shipment, ExportRoom>,
-    pub gate: &'s Observer,
+    pub observer: &'s Observer,
 }
 
 /// What the exporter leaves.
@@ -36,7 +37,7 @@ pub struct ExporterLeft<Output: Destination, D: Room> {
     pub is_full: bool,
 }
 
-impl<'s, Output: Destination + Drop, ExportRoom: Room, Observer: Gate, Runtime: Wait + Clock> Job
+impl<'s, Output: Destination + Drop, ExportRoom: Room, Observer: Watcher, Runtime: Wait + Clock> Job
     for ExporterJob<'s, Output, ExportRoom, Observer, Runtime> {
     ghost use Rattle.std.specs.Prelude.{◌≡◌, ◌<◌, [], All, false};
     ghost use Rattle.std.specs.List.{list_any};
@@ -57,9 +58,9 @@ impl<'s, Output: Destination + Drop, ExportRoom: Room, Observer: Gate, Runtime: 
             rt,
             exporter,
             receiver,
-            gate,
+            observer,
         } = self;
-        let end = span_exporter::work(rt, exporter, receiver, Tally::new(Told::new(gate)));
+        let end = span_exporter::work(rt, exporter, receiver, Tally::new(Told::new(observer)));
         let is_full = end.tally.is_full();
         ExporterLeft {
             exporter: end.exporter,

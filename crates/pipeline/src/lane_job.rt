@@ -4,15 +4,16 @@ ghost use Rattle.run_weave.specs.Jobs.{LaneDid};
 
 use crate::telling::Told;
 use drop_ledger::Report;
-use http_lane::{Clock as MomentClock, HasStopMark, Lent};
+use http_lane::{Answers, Clock as MomentClock, HasStopMark, Lent};
 use job_threads::Job;
-use lane_queue::{Gate, Room, Sender, SenderPort};
+use lane_queue::{Room, Sender, SenderPort};
 use lane_seq::Lane;
 use lane_worker::{LaneServer, LaneTask};
 use otlp_types::Item;
 use std::alloc::Global;
 use std::sync::Wait;
 use std::time::Clock;
+use thread_watch::{Barrier, Watcher};
 
 /// What a lane's thread is given. Its lane has the lane's number, and `room` has room for the lane's ends.
 #[derive(Drop)]
@@ -23,9 +24,10 @@ pub struct LaneJob<'s, Server, QueueRoom: Room, Observer, Mark, Time, Runtime: W
     pub acceptor: Server,
     pub lane: Lane<SenderPort<'s, Item, QueueRoom, Runtime>>,
     pub room: Vec<Sender<Item, QueueRoom>>,
-    pub gate: &'s Observer,
+    pub observer: &'s Observer,
     pub stop: &'s Mark,
     pub clock: &'s Time,
+    pub answers: &'s Answers,
 }
 
 /// What a lane's thread leaves.
@@ -43,7 +45,7 @@ impl<
     's,
     Server: LaneServer + Drop,
     QueueRoom: Room,
-    Observer: Gate,
+    Observer: Barrier + Watcher,
     Mark: HasStopMark,
     Time: MomentClock,
     Runtime: Wait + Clock,
@@ -67,14 +69,20 @@ impl<
             mut acceptor,
             lane,
             room,
-            gate,
+            observer,
             stop,
             clock,
+            answers,
         } = self;
-        let mut counts = Told::new(gate);
-        let lent = Lent { alloc, stop, clock };
+        let mut counts = Told::new(observer);
+        let lent = Lent {
+            alloc,
+            stop,
+            clock,
+            answers,
+        };
         let task = LaneTask { number, lane, room };
-        let end = lane_worker::work(rt, &lent, task, &mut acceptor, &mut counts, gate);
+        let end = lane_worker::work(rt, &lent, task, &mut acceptor, &mut counts, observer);
         let report = counts.end();
         LaneLeft {
             senders: end.senders,

@@ -5,7 +5,7 @@ ghost use Rattle.pipeline.specs.Made.{NumberedFrom};
 
 use crate::lane_job::LaneJob;
 use crate::lent::ThreadContext;
-use lane_queue::{Brake, Gate, Room, Sender, SenderPort};
+use lane_queue::{Brake, Room, Sender, SenderPort};
 use lane_seq::Lane;
 use otlp_types::Item;
 use std::alloc::{AllocError, Global};
@@ -19,10 +19,10 @@ pub struct LaneJobs<'s, Server, QueueRoom: Room, Observer, Mark, Time, Runtime: 
 }
 
 /// What the lanes' threads are given: for each acceptor, in their order, a lane of its number over its ends.
-/// `asks_again`: a request for whose spans a queue lacks room is to be sent again. One that comes while the gate's
+/// `asks_again`: a request for whose spans a queue lacks room is to be sent again. One that comes while the
 /// brake is on is in any case. `keeps_doubles`: the lanes keep doubles. Where there is no memory the acceptors come
 /// back.
-pub fn lane_jobs<'s, Server: Drop, QueueRoom: Room, Observer: Gate, Mark, Time, Runtime: Wait>(
+pub fn lane_jobs<'s, Server: Drop, QueueRoom: Room, Observer, Mark, Time, Runtime: Wait>(
     lent: &ThreadContext<'s, Observer, Mark, Time, Runtime>,
     asks_again: bool,
     keeps_doubles: bool,
@@ -84,7 +84,7 @@ pub fn acceptors_of<'s, Server: Drop, QueueRoom: Room, Observer, Mark, Time, Run
 }
 
 /// What a lane's thread is given; `lists` has room for its ports, and for their ends.
-fn lane_job<'s, Server: Drop, QueueRoom: Room, Observer: Gate, Mark, Time, Runtime: Wait>(
+fn lane_job<'s, Server: Drop, QueueRoom: Room, Observer, Mark, Time, Runtime: Wait>(
     lent: &ThreadContext<'s, Observer, Mark, Time, Runtime>,
     asks_again: bool,
     keeps_doubles: bool,
@@ -102,18 +102,18 @@ fn lane_job<'s, Server: Drop, QueueRoom: Room, Observer: Gate, Mark, Time, Runti
     ensures acceptor { result.acceptor ≡ acceptor }
 {
     let LaneLists { ports, room } = lists;
-    let brake = lent.gate.brake();
     LaneJob {
         rt: lent.rt,
         alloc: lent.alloc,
         number,
         acceptor,
-        lane: lane_of(lent.rt, asks_again, brake, number, senders, ports).keeping_doubles(
+        lane: lane_of(lent.rt, asks_again, lent.brake, number, senders, ports).keeping_doubles(
             keeps_doubles,
         ),
         room,
-        gate: lent.gate,
+        observer: lent.observer,
         stop: lent.stop,
+        answers: lent.answers,
         clock: lent.clock,
     }
 }

@@ -1,4 +1,6 @@
 //! What all threads of a run are lent.
+use http_lane::Answers;
+use lane_queue::Brake;
 use std::alloc::Global;
 use trace_hash::TraceHashing;
 
@@ -9,9 +11,11 @@ pub struct ThreadContext<'s, Observer, Mark, Time, Runtime> {
     pub alloc: Global,
     /// How every shard hashes trace ids.
     pub hashing: TraceHashing,
-    pub gate: &'s Observer,
+    pub observer: &'s Observer,
+    pub brake: Option<&'s Brake>,
     pub stop: &'s Mark,
     pub clock: &'s Time,
+    pub answers: &'s Answers,
 }
 
 /// What a run is lent by its caller.
@@ -21,9 +25,13 @@ pub struct RunContext<'s, Observer, Mark, Time, Runtime> {
     pub rt: &'s Runtime,
     pub alloc: Global,
     /// Hears what lanes and shards reach, and what they count.
-    pub gate: &'s Observer,
+    pub observer: &'s Observer,
+    /// What tells lanes and shards that no more is to be taken for now, if anything does.
+    pub brake: Option<&'s Brake>,
     /// The mark that asks the run to end.
     pub stop: &'s Mark,
     /// The moments of requests.
     pub clock: &'s Time,
+    /// How many requests were answered with each status.
+    pub answers: &'s Answers,
 }

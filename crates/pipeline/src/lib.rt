@@ -6,7 +6,7 @@
 //! their queues and seats again: what they did is a run of the core (`specs/Promise`).
 //!
 //! ```
-//! let context = RunContext { rt: &rt, alloc, gate: &board, stop: &mark, clock: &clock };
+//! let context = RunContext { rt: &rt, alloc, observer: &board, brake, stop: &mark, clock: &clock, answers: &answers };
 //! let (sink, answer, not_begun) = run_by_turns(&context, config, drivers, ticks, sink);
 //! ```
 #![tactic(auto)]

@@ -15,7 +15,7 @@ use crate::shards::{ShardEnds, shard_jobs};
 use crate::ticker_job::TickerJob;
 use drop_ledger::Report;
 use job_threads::Team;
-use lane_queue::{Gate, LaneQueue, QueueGrid, Receiver, Room, Sender, new_grid};
+use lane_queue::{LaneQueue, QueueGrid, Receiver, Room, Sender, new_grid};
 use otlp_types::{Item, Shipment};
 use shared_budget::{SharedBudget, new_seats_have_nodes};
 use std::alloc::{AllocError, Global};
@@ -69,7 +69,7 @@ pub fn make<
     TickSource: Drop,
     QueueRoom: Room,
     ExportRoom: Room,
-    Observer: Gate,
+    Observer,
     Mark,
     Time,
     Runtime: Wait,
@@ -136,7 +136,7 @@ fn team_of<
     TickSource: Drop,
     QueueRoom: Room,
     ExportRoom: Room,
-    Observer: Gate,
+    Observer,
     Mark,
     Time,
     Runtime: Wait,

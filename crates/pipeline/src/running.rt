@@ -20,7 +20,7 @@ use crate::making::{Made, RunRooms, make};
 use drop_ledger::{Report, total};
 use http_lane::{Clock as MomentClock, HasStopMark};
 use job_threads::{Team, run_team};
-use lane_queue::{Gate, Room};
+use lane_queue::Room;
 use lane_turns::Driver;
 use lane_worker::{Acceptor, ByTurns, LaneServer, OneByOne, Ticks};
 use shared_budget::asked_seats_may_be_compared;
@@ -28,6 +28,7 @@ use span_exporter::{Exporter, sink_takes_lines};
 use span_sink::{Destination, LineSink, Sink, takes_handed_lines};
 use std::marker::Brand;
 use std::time::Clock;
+use thread_watch::{Barrier, Watcher};
 use trace_hash::TraceHashing;
 use tsc_config::Config;
 
@@ -35,15 +36,15 @@ use tsc_config::Config;
 /// each shard and the ticker, and the exporter on this one. Where nothing was begun the servers and the ticks come back
 /// as they were.
 ///
-/// There is one server for each lane, which serves its acceptor's connections one after the other. The context's gate,
-/// mark and clock are lent to all lanes, the gate to the shards too. The sink has the lines of the batches that were
+/// There is one server for each lane, which serves its acceptor's connections one after the other. The context's
+/// observer, brake, mark and clock are lent to all lanes, the observer and the brake to the shards too. The sink has the lines of the batches that were
 /// handed over; the report has the counts of all threads.
 pub fn run<
     's,
     Listener: Acceptor + Send + Drop,
     TickSource: Ticks + Send + Drop,
     Output: Sink + Drop,
-    Observer: Gate + Sync,
+    Observer: Barrier + Watcher + Sync,
     Mark: HasStopMark + Sync,
     Time: MomentClock + Sync,
     Runtime: Machine,
@@ -82,7 +83,7 @@ pub fn run_by_turns<
     Poller: Driver + Send + Drop,
     TickSource: Ticks + Send + Drop,
     Output: Sink + Drop,
-    Observer: Gate + Sync,
+    Observer: Barrier + Watcher + Sync,
     Mark: HasStopMark + Sync,
     Time: MomentClock + Sync,
     Runtime: Machine,
@@ -116,7 +117,7 @@ pub fn run_by_turns_to<
     Poller: Driver + Send + Drop,
     TickSource: Ticks + Send + Drop,
     Output: Destination + Drop,
-    Observer: Gate + Sync,
+    Observer: Barrier + Watcher + Sync,
     Mark: HasStopMark + Sync,
     Time: MomentClock + Sync,
     Runtime: Machine,
@@ -148,7 +149,7 @@ fn run_servers<
     Server: LaneServer + Send + Drop,
     TickSource: Ticks + Send + Drop,
     Output: Destination + Drop,
-    Observer: Gate + Sync,
+    Observer: Barrier + Watcher + Sync,
     Mark: HasStopMark + Sync,
     Time: MomentClock + Sync,
     Runtime: Machine,
@@ -207,7 +208,7 @@ fn run_in<
     Server: LaneServer + Send + Drop,
     TickSource: Ticks + Send + Drop,
     Output: Destination + Drop,
-    Observer: Gate + Sync,
+    Observer: Barrier + Watcher + Sync,
     Mark: HasStopMark + Sync,
     Time: MomentClock + Sync,
     QueueRoom: Room + Send + Sync,
@@ -241,9 +242,11 @@ fn run_in<
         rt: context.rt,
         alloc: context.alloc,
         hashing,
-        gate: context.gate,
+        observer: context.observer,
+        brake: context.brake,
         stop: context.stop,
         clock: context.clock,
+        answers: context.answers,
     };
     match run_over::<
         Server,
@@ -292,7 +295,7 @@ fn run_over<
     Server: LaneServer + Send + Drop,
     TickSource: Ticks + Send + Drop,
     Output: Destination + Drop,
-    Observer: Gate + Sync,
+    Observer: Barrier + Watcher + Sync,
     Mark: HasStopMark + Sync,
     Time: MomentClock + Sync,
     QueueRoom: Room + Send + Sync,
@@ -340,7 +343,7 @@ fn run_over<
         rt: lent.rt,
         exporter,
         receiver: shipments,
-        gate: lent.gate,
+        observer: lent.observer,
     };
     match run_team(lent.rt, lent.alloc, team, job) {
         Ok((left, last)) => {

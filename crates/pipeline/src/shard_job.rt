@@ -4,13 +4,14 @@ ghost use Rattle.std.specs.Prelude.{◌≡◌};
 use crate::telling::Told;
 use drop_ledger::{Report, Tally};
 use job_threads::Job;
-use lane_queue::{Gate, Receiver, Room, Sender};
+use lane_queue::{Brake, Receiver, Room, Sender};
 use otlp_types::{Item, Shipment};
 use shard_core::Shard;
 use shard_worker::{ShardDesk, Turns};
 use shared_budget::BudgetSeat;
 use std::sync::Wait;
 use std::time::Clock;
+use thread_watch::{Barrier, Watcher};
 
 /// What a shard's thread is given.
 #[derive(Drop)]
@@ -21,7 +22,8 @@ pub struct ShardJob<'s, QueueRoom: Room, ExportRoom: Room, Observer, Runtime: Wa
     pub seat: BudgetSeat<'s, Runtime>,
     pub receiver: Receiver<Item, QueueRoom>,
     pub sender: Sender<Shipment, ExportRoom>,
-    pub gate: &'s Observer,
+    pub observer: &'s Observer,
+    pub brake: Option<&'s Brake>,
 }
 
 /// What a shard's thread leaves.
@@ -39,7 +41,7 @@ pub struct ShardLeft<'s, C: Room, D: Room, R: Wait> {
     pub is_full: bool,
 }
 
-impl<'s, QueueRoom: Room, ExportRoom: Room, Observer: Gate, Runtime: Wait + Clock> Job
+impl<'s, QueueRoom: Room, ExportRoom: Room, Observer: Barrier + Watcher, Runtime: Wait + Clock> Job
     for ShardJob<'s, QueueRoom, ExportRoom, Observer, Runtime> {
     ghost use Rattle.shard_core.specs.Held.{settings};
     ghost use Rattle.run_weave.specs.Jobs.{ShardDid};
@@ -61,7 +63,8 @@ impl<'s, QueueRoom: Room, ExportRoom: Room, Observer: Gate, Runtime: Wait + Cloc
             seat,
             receiver,
             sender,
-            gate,
+            observer,
+            brake,
         } = self;
         let turns = Turns {
             number,
@@ -69,10 +72,11 @@ impl<'s, QueueRoom: Room, ExportRoom: Room, Observer: Gate, Runtime: Wait + Cloc
             limiter: seat,
             desk: ShardDesk {
                 sender,
-                tally: Tally::new(Told::new(gate)),
+                tally: Tally::new(Told::new(observer)),
             },
+            brake,
         };
-        let end = shard_worker::work(rt, turns, receiver, gate);
+        let end = shard_worker::work(rt, turns, receiver, observer);
         let is_full = end.tally.is_full();
         ShardLeft {
             seat: end.limiter,

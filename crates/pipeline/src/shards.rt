@@ -81,7 +81,8 @@ fn jobs_of<'s, QueueRoom: Room, ExportRoom: Room, Observer, Mark, Time, Runtime:
             seat: seats.take_last(),
             receiver: receivers.take_last(),
             sender: exports.take_last(),
-            gate: lent.gate,
+            observer: lent.observer,
+            brake: lent.brake,
         });
     }
     jobs.reverse();

@@ -1,24 +1,24 @@
-//! A report whose additions are told to a gate.
+//! A report whose additions are told to a watcher.
 ghost use Rattle.std.specs.Prelude.{◌≡◌, replicate};
 
 use drop_ledger::{Count, Counter, CounterOverflow, Report};
-use lane_queue::Gate;
+use thread_watch::Watcher;
 
-/// A report that tells a gate each addition, when it is made.
+/// A report that tells a watcher each addition, when it is made.
 #[derive(Drop)]
-pub struct Told<'g, G> {
+pub struct Told<'w, W> {
     report: Report,
-    gate: &'g G,
+    watcher: &'w W,
 }
 
-impl<'g, G: Gate> Told<'g, G> {
+impl<'w, W: Watcher> Told<'w, W> {
     /// All counts are 0.
-    pub fn new(gate: &'g G) -> Self
+    pub fn new(watcher: &'w W) -> Self
         ensures { result.report ≡ replicate 9 0 }
     {
         Told {
             report: Report::new(),
-            gate,
+            watcher,
         }
     }
 
@@ -30,13 +30,13 @@ impl<'g, G: Gate> Told<'g, G> {
     }
 }
 
-impl<'g, G: Gate> Counter for Told<'g, G> {
+impl<'w, W: Watcher> Counter for Told<'w, W> {
     ghost counted = { λ t. t.report };
 
     fn add(&mut self, count: Count, n: u64) -> Result<(), CounterOverflow> {
-        // First to the thread's own report, and only then to what is shown: no count rests on the gate (D-195).
+        // First to the thread's own report, and only then to what is shown: no count rests on the watcher (D-195).
         self.report.add(count, n)?;
-        self.gate.counted(count.place(), n);
+        self.watcher.counted(count.place(), n);
         Ok(())
     }
 }

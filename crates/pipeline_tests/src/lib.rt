@@ -3,7 +3,7 @@
 #![tactic(auto)]
 
 #[cfg(test)]
-mod gates;
+mod barriers;
 #[cfg(test)]
 mod memory;
 #[cfg(test)]

@@ -2,16 +2,17 @@
 ghost use Rattle.std.specs.Prelude.{◌<◌, IfOk};
 ghost use Rattle.tsc_config.specs.Values.{InRange};
 
-use crate::gates::{LanesMeet, Places, ShardsBeginEarly, ShardsMeet};
+use crate::barriers::{LanesMeet, Places, ShardsBeginEarly, ShardsMeet};
 use crate::memory::{Held, Mark, MemoryAcceptor, MemorySink, NoTicks, Standing};
 use config_faults::ConfigFault;
 use drop_ledger::Report;
-use lane_queue::{Gate, OpenGate};
+use http_lane::Answers;
 use lane_worker::OneByOne;
 use pipeline::{Machine, RunContext, ServeFault, run};
 use std::alloc::{AllocError, Global};
 use std::sync::atomic::AtomicBool;
 use std::test::Fail;
+use thread_watch::{Barrier, Unwatched, Watcher};
 use tsc_config::{Config, read};
 
 /// A trace of shard 0 of two, and one of shard 1.
@@ -82,12 +83,12 @@ pub type Came = (
 );
 
 /// What a run comes to over acceptors, one for each lane of the configuration.
-pub fn run_acceptors<G: Gate + Sync, R: Machine>(
+pub fn run_acceptors<O: Barrier + Watcher + Sync, R: Machine>(
     rt: &R,
     alloc: Global,
     config: &str,
     acceptors: Vec<MemoryAcceptor>,
-    gate: &G,
+    observer: &O,
     course: Course,
 ) -> Result<Came, Fail> {
     let config = configured(alloc, config)?;
@@ -102,23 +103,26 @@ pub fn run_acceptors<G: Gate + Sync, R: Machine>(
         is_set: AtomicBool::new(course.is_stopped),
     };
     let sink = MemorySink::new(alloc, course.is_broken)?;
+    let answers = Answers::new();
     let context = RunContext {
         rt,
         alloc,
-        gate,
+        observer,
+        brake: None,
         stop: &stop,
         clock: &Standing,
+        answers: &answers,
     };
     Ok(run(&context, config, servers, NoTicks, sink))
 }
 
 /// The same of two lanes with one request each.
-fn run_two<G: Gate + Sync, R: Machine>(
+fn run_two<O: Barrier + Watcher + Sync, R: Machine>(
     rt: &R,
     alloc: Global,
     config: &str,
     acceptors: [MemoryAcceptor; 2],
-    gate: &G,
+    observer: &O,
 ) -> Result<Came, Fail> {
     let course = Course {
         is_stopped: false,
@@ -129,7 +133,7 @@ fn run_two<G: Gate + Sync, R: Machine>(
         alloc,
         config,
         Vec::from_array(alloc, acceptors)?,
-        gate,
+        observer,
         course,
     )
 }
@@ -139,7 +143,7 @@ fn hundred_spans_a_lane(rt: HostRuntime) -> Result<(), Fail> {
     let alloc = rt.alloc();
     let first = acceptor(alloc, request(alloc, A, 100)?, false)?;
     let second = acceptor(alloc, request(alloc, A, 100)?, false)?;
-    let (sink, answer, _) = run_two(&rt, alloc, ONE_SHARD, [first, second], &OpenGate)?;
+    let (sink, answer, _) = run_two(&rt, alloc, ONE_SHARD, [first, second], &Unwatched)?;
     let Ok(report) = answer else {
         return Err(Fail::from("a fault"));
     };
@@ -148,19 +152,19 @@ fn hundred_spans_a_lane(rt: HostRuntime) -> Result<(), Fail> {
     Ok(())
 }
 
-/// Runs two lanes with one span each, behind a gate.
-fn two_spans<G: Gate + Sync, R: Machine>(
+/// Runs two lanes with one span each, behind a barrier.
+fn two_spans<O: Barrier + Watcher + Sync, R: Machine>(
     rt: &R,
     alloc: Global,
     config: &str,
     traces: [&str; 2],
     second: bool,
-    gate: &G,
+    observer: &O,
 ) -> Result<[u64; 9], Fail> {
     let [one, other] = traces;
     let first = acceptor(alloc, request(alloc, one, 1)?, second)?;
     let last = acceptor(alloc, request(alloc, other, 1)?, second)?;
-    let (_, answer, _) = run_two(rt, alloc, config, [first, last], gate)?;
+    let (_, answer, _) = run_two(rt, alloc, config, [first, last], observer)?;
     let Ok(report) = answer else {
         return Err(Fail::from("a fault"));
     };

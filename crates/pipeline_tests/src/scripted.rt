@@ -3,8 +3,8 @@ ghost use Rattle.std.specs.Prelude.{◌<◌, ◌≤◌, IfSome, length, ⊤};
 
 use crate::memory::{Mark, MemorySink, NoTicks, Standing};
 use crate::overlap::{A, configured, request};
+use http_lane::Answers;
 use http_text::Allowed;
-use lane_queue::OpenGate;
 use lane_turns::{Done, Driver, Leaving, Next};
 use lane_worker::ByTurns;
 use pipeline::{Machine, RunContext, run_by_turns};
@@ -13,6 +13,7 @@ use std::sync::Wait;
 use std::sync::atomic::AtomicBool;
 use std::test::Fail;
 use std::time::Clock;
+use thread_watch::Unwatched;
 
 /// One lane that keeps everything, and one shard.
 const ONE_LANE: &str = "lanes = 1\npolicies = [{ name = \"all\", type = \"always_sample\" }]\n";
@@ -112,12 +113,15 @@ fn run_pieces<R: Machine>(
     let stop = Mark {
         is_set: AtomicBool::new(false),
     };
+    let answers = Answers::new();
     let context = RunContext {
         rt,
         alloc,
-        gate: &OpenGate,
+        observer: &Unwatched,
+        brake: None,
         stop: &stop,
         clock: &Standing,
+        answers: &answers,
     };
     let sink = MemorySink::new(alloc, false)?;
     let (sink, answer, _) = run_by_turns(&context, config, drivers, NoTicks, sink);

@@ -3,11 +3,11 @@
 use crate::memory::{Held, MemoryAcceptor};
 use crate::overlap::{A, Came, Course, request, run_acceptors};
 use drop_ledger::{Count, Report};
-use lane_queue::OpenGate;
 use pipeline::{Machine, ServeFault};
 use span_ids::Reason;
 use std::alloc::Global;
 use std::test::Fail;
+use thread_watch::Unwatched;
 
 /// One lane and one shard that keep everything.
 const ALL: &str = "policies = [{ name = \"all\", type = \"always_sample\" }]\n";
@@ -32,7 +32,7 @@ fn run_one<R: Machine>(
 ) -> Result<Came, Fail> {
     let mut acceptors = Vec::new(alloc);
     acceptors.push(MemoryAcceptor { alloc, connections })?;
-    run_acceptors(rt, alloc, ALL, acceptors, &OpenGate, course)
+    run_acceptors(rt, alloc, ALL, acceptors, &Unwatched, course)
 }
 
 /// A run whose stop mark isn't set before it begins, and whose sink is whole.

@@ -16,12 +16,13 @@ ghost use Rattle.shard_worker.specs.Turns.{AreAt, HasTaken, HoldsBack, IsCalled,
 
 use crate::turn::Turns;
 use drop_ledger::Counter;
-use lane_queue::{Gate, Receiver, Room};
+use lane_queue::{Receiver, Room};
 use otlp_types::Item;
 use rate_budget::Limiter;
 use span_ids::Moment;
 use std::sync::Wait;
 use std::time::Clock;
+use thread_watch::{Barrier, Watcher};
 
 /// Whether a shard takes the item: a span has valid ids.
 pub fn is_taken(item: &Item) -> bool
@@ -37,16 +38,17 @@ pub fn is_taken(item: &Item) -> bool
 /// Takes the item that was popped last, and says whether every sender has ended. A tick is taken behind what waited in
 /// the other queues when it was popped.
 pub fn take_item<
+    'b,
     RateLimits: Limiter + Drop,
     QueueRoom: Room,
     ExportRoom: Room,
     Ledger: Counter,
-    Observer: Gate,
+    Observer: Barrier + Watcher,
     Runtime: Wait + Clock,
 >(
     rt: &Runtime,
-    gate: &Observer,
-    turns: &mut Turns<RateLimits, ExportRoom, Ledger>,
+    observer: &Observer,
+    turns: &mut Turns<'b, RateLimits, ExportRoom, Ledger>,
     receiver: &mut Receiver<Item, QueueRoom>,
     item: Item,
 ) -> bool
@@ -69,25 +71,26 @@ pub fn take_item<
     ensures same_queues { queues receiver.new.ends ≡ queues receiver.old.ends }
 {
     match item {
-        Item::Tick(moment) => take_tick(rt, gate, turns, receiver, moment),
-        Item::Span(arrival) => turns.turn(rt, gate, Item::Span(arrival)),
-        Item::End(sender) => turns.turn(rt, gate, Item::End(sender)),
+        Item::Tick(moment) => take_tick(rt, observer, turns, receiver, moment),
+        Item::Span(arrival) => turns.turn(rt, observer, Item::Span(arrival)),
+        Item::End(sender) => turns.turn(rt, observer, Item::End(sender)),
     }
 }
 
 /// Takes a tick that was popped last behind what waits in the other queues, and says whether every sender has ended:
 /// the item with which they all have is taken behind the tick.
 fn take_tick<
+    'b,
     RateLimits: Limiter + Drop,
     QueueRoom: Room,
     ExportRoom: Room,
     Ledger: Counter,
-    Observer: Gate,
+    Observer: Barrier + Watcher,
     Runtime: Wait + Clock,
 >(
     rt: &Runtime,
-    gate: &Observer,
-    turns: &mut Turns<RateLimits, ExportRoom, Ledger>,
+    observer: &Observer,
+    turns: &mut Turns<'b, RateLimits, ExportRoom, Ledger>,
     receiver: &mut Receiver<Item, QueueRoom>,
     moment: Moment,
 ) -> bool
@@ -115,27 +118,28 @@ fn take_tick<
             continue;
         }
         // So what a lane pushed before the tick is decided with it. Nothing is taken behind the last End (D-140).
-        if let Some(last) = drain(rt, gate, turns, receiver, other) {
-            turns.turn(rt, gate, Item::Tick(moment));
-            return turns.turn(rt, gate, last);
+        if let Some(last) = drain(rt, observer, turns, receiver, other) {
+            turns.turn(rt, observer, Item::Tick(moment));
+            return turns.turn(rt, observer, last);
         }
     }
-    turns.turn(rt, gate, Item::Tick(moment))
+    turns.turn(rt, observer, Item::Tick(moment))
 }
 
 /// Takes what waits in one queue, while an item of another one is held back: until it is empty, or as many items as it
 /// may hold. The item with which every sender has ended isn't taken, and comes back.
 fn drain<
+    'b,
     RateLimits: Limiter + Drop,
     QueueRoom: Room,
     ExportRoom: Room,
     Ledger: Counter,
-    Observer: Gate,
+    Observer: Barrier + Watcher,
     Runtime: Wait + Clock,
 >(
     rt: &Runtime,
-    gate: &Observer,
-    turns: &mut Turns<RateLimits, ExportRoom, Ledger>,
+    observer: &Observer,
+    turns: &mut Turns<'b, RateLimits, ExportRoom, Ledger>,
     receiver: &mut Receiver<Item, QueueRoom>,
     place: usize,
 ) -> Option<Item>
@@ -171,7 +175,7 @@ fn drain<
         if turns.shard.finishes_with(&item) {
             return Some(item);
         }
-        turns.turn(rt, gate, item);
+        turns.turn(rt, observer, item);
     }
     None
 }

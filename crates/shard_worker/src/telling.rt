@@ -1,25 +1,26 @@
 //! What a shard tells those who look at it while it runs. No contract rests on it.
-use lane_queue::{Gate, Receiver, Room, ShardLoad};
+use lane_queue::{Brake, Receiver, Room};
 use otlp_types::{Item, Span};
 use shard_core::{Decided, Shard, Taken};
 use span_ids::Moment;
+use thread_watch::{ShardLoad, Watcher};
 
 /// The least time between two tellings of what a shard holds, in milliseconds.
 const PAUSE: u64 = 500;
 
 /// Whether a shard may take memory for spans.
-pub fn has_memory<G: Gate>(gate: &G) -> bool {
-    match gate.brake() {
+pub fn has_memory(brake: Option<&Brake>) -> bool {
+    match brake {
         Some(brake) => !brake.refuses_spans(),
         None => true,
     }
 }
 
 /// Tells of a span of which attributes were left out: its own, or of its events or links.
-pub fn tell_item<G: Gate>(gate: &G, item: &Item) {
+pub fn tell_item<W: Watcher>(watcher: &W, item: &Item) {
     if let Item::Span(arrival) = item {
         if is_incomplete(arrival.rec.span.get()) {
-            gate.takes_incomplete();
+            watcher.takes_incomplete();
         }
     }
 }
@@ -40,17 +41,17 @@ fn is_incomplete(span: &Span) -> bool {
 }
 
 /// Tells of a span that is handed over late.
-pub fn tell_taken<G: Gate>(gate: &G, taken: &Taken) {
+pub fn tell_taken<W: Watcher>(watcher: &W, taken: &Taken) {
     if let Taken::Late(_) = taken {
-        gate.handed_late();
+        watcher.handed_late();
     }
 }
 
 /// Tells of a decision, and of the policy that decided.
-pub fn tell_decided<G: Gate>(gate: &G, decided: &Decided, decider: Option<usize>) {
+pub fn tell_decided<W: Watcher>(watcher: &W, decided: &Decided, decider: Option<usize>) {
     match decided {
-        Decided::Release(_) => gate.decided(decider, true),
-        Decided::Dropped(_) => gate.decided(decider, false),
+        Decided::Release(_) => watcher.decided(decider, true),
+        Decided::Dropped(_) => watcher.decided(decider, false),
         Decided::Nothing => {}
     }
 }
@@ -67,8 +68,8 @@ pub fn next_telling(item: &Item, told: Option<Moment>) -> Option<Moment> {
 }
 
 /// Tells what the shard of this number holds, if it is to be told now, and answers when it was told last.
-pub fn tell_load<C: Room, G: Gate>(
-    gate: &G,
+pub fn tell_load<C: Room, W: Watcher>(
+    watcher: &W,
     number: u16,
     shard: &Shard,
     receiver: &Receiver<Item, C>,
@@ -84,7 +85,7 @@ pub fn tell_load<C: Room, G: Gate>(
         Some(opened) => now.saturating_sub(opened),
         None => 0,
     };
-    gate.holds(
+    watcher.holds(
         number,
         ShardLoad {
             queued: receiver.len(),

@@ -1,10 +1,11 @@
-//! A queue of two and one of the greatest capacity in one thread, and the open gate.
+//! A queue of two and one of the greatest capacity in one thread, and barriers.
 ghost use Rattle.std.specs.Prelude.{◌<◌};
 
-use lane_queue::{Gate, GatePlace, ListPort, OpenGate, Port, popped_then_held_is_pushed};
+use lane_queue::{ListPort, Port, popped_then_held_is_pushed};
 use std::alloc::{AllocError, Global};
 use std::cell::Cell;
 use std::test::Fail;
+use thread_watch::{Barrier, ThreadPlace, Unwatched};
 
 /// Pushes by the trait, and answers what came back.
 fn pushed<P: Port<u64>>(port: &mut P, item: u64) -> Option<u64> {
@@ -68,43 +69,43 @@ fn greatest_queue_fills(rt: HostRuntime) -> Result<(), Fail> {
     Ok(())
 }
 
-/// A gate that keeps the last place.
+/// A barrier that keeps the last place.
 #[derive(Drop)]
 struct LastPlace {
-    place: Cell<Option<GatePlace>>,
+    place: Cell<Option<ThreadPlace>>,
 }
 
-impl Gate for LastPlace {
-    fn reach(&self, place: GatePlace) {
+impl Barrier for LastPlace {
+    fn reach(&self, place: ThreadPlace) {
         self.place.set(Some(place));
     }
 }
 
 /// Reaches a place by the trait.
-fn pass<G: Gate>(gate: &G, place: GatePlace) {
-    gate.reach(place);
+fn pass<B: Barrier>(barrier: &B, place: ThreadPlace) {
+    barrier.reach(place);
 }
 
-/// The place that a gate keeps once this one is reached.
-fn kept(gate: &LastPlace, place: GatePlace) -> Option<GatePlace> {
-    pass(&OpenGate, place);
-    pass(gate, place);
-    gate.place.get()
+/// The place that a barrier keeps once this one is reached.
+fn kept(barrier: &LastPlace, place: ThreadPlace) -> Option<ThreadPlace> {
+    pass(&Unwatched, place);
+    pass(barrier, place);
+    barrier.place.get()
 }
 
 #[test]
-fn gates_are_reached(rt: HostRuntime) {
-    let gate = LastPlace {
+fn barriers_are_reached(rt: HostRuntime) {
+    let barrier = LastPlace {
         place: Cell::new(None),
     };
     let (lane, ordinal) = (0, 1);
-    let connected = GatePlace::Connected { lane, ordinal };
-    let served = GatePlace::Served { lane, ordinal };
-    let taken = GatePlace::Taken { shard: 2 };
+    let connected = ThreadPlace::Connected { lane, ordinal };
+    let served = ThreadPlace::Served { lane, ordinal };
+    let taken = ThreadPlace::Taken { shard: 2 };
     let places = [
-        kept(&gate, connected),
-        kept(&gate, served),
-        kept(&gate, taken),
+        kept(&barrier, connected),
+        kept(&barrier, served),
+        kept(&barrier, taken),
     ];
     assert_eq!(rt; places, [Some(connected), Some(served), Some(taken)]);
 }

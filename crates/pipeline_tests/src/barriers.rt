@@ -1,7 +1,7 @@
-//! Gates that hold one thread until another has reached a place, and give up after so many turns.
-use lane_queue::{Gate, GatePlace};
+//! Barriers that hold one thread until another has reached a place, and give up after so many turns.
 use std::sync::atomic::{AtomicBool, Ordering};
 use std::thread;
+use thread_watch::{Barrier, ThreadPlace, Watcher};
 
 /// So many turns a thread is held at most: some seconds.
 const TURNS: u32 = 100_000;
@@ -93,9 +93,11 @@ impl Places {
 #[derive(Drop)]
 pub struct LanesMeet<'p>(pub &'p Places);
 
-impl<'p> Gate for LanesMeet<'p> {
-    fn reach(&self, place: GatePlace) {
-        if let GatePlace::Connected { lane, ordinal } = place {
+impl<'p> Watcher for LanesMeet<'p> {}
+
+impl<'p> Barrier for LanesMeet<'p> {
+    fn reach(&self, place: ThreadPlace) {
+        if let ThreadPlace::Connected { lane, ordinal } = place {
             if lane < 2 && ordinal == 0 {
                 self.0.meet(&self.0.first, lane == 0);
             } else if lane < 2 && ordinal == 1 {
@@ -109,19 +111,21 @@ impl<'p> Gate for LanesMeet<'p> {
 #[derive(Drop)]
 pub struct ShardsBeginEarly<'p>(pub &'p Places);
 
-impl<'p> Gate for ShardsBeginEarly<'p> {
-    fn reach(&self, place: GatePlace) {
+impl<'p> Watcher for ShardsBeginEarly<'p> {}
+
+impl<'p> Barrier for ShardsBeginEarly<'p> {
+    fn reach(&self, place: ThreadPlace) {
         match place {
-            GatePlace::Taken { shard } => {
+            ThreadPlace::Taken { shard } => {
                 let (own, _) = self.0.taken.marks(shard == 0);
                 own.store(true, Ordering::SeqCst);
             }
-            GatePlace::Served { lane, ordinal } => {
+            ThreadPlace::Served { lane, ordinal } => {
                 if lane == 0 && ordinal == 0 {
                     self.0.hold(&self.0.taken.first, &self.0.taken.second);
                 }
             }
-            GatePlace::Connected { .. } => {}
+            ThreadPlace::Connected { .. } => {}
         }
     }
 }
@@ -130,9 +134,11 @@ impl<'p> Gate for ShardsBeginEarly<'p> {
 #[derive(Drop)]
 pub struct ShardsMeet<'p>(pub &'p Places);
 
-impl<'p> Gate for ShardsMeet<'p> {
-    fn reach(&self, place: GatePlace) {
-        if let GatePlace::Taken { shard } = place {
+impl<'p> Watcher for ShardsMeet<'p> {}
+
+impl<'p> Barrier for ShardsMeet<'p> {
+    fn reach(&self, place: ThreadPlace) {
+        if let ThreadPlace::Taken { shard } = place {
             if shard < 2 {
                 self.0.meet(&self.0.taken, shard == 0);
             }

@@ -1,0 +1,41 @@
+//! What threads count and hold, told while they run.
+use crate::barrier::Barrier;
+
+/// What a shard holds.
+#[derive(Clone, Copy, PartialEq, Eq)]
+pub struct ShardLoad {
+    /// Items that wait in its queues.
+    pub queued: u64,
+    /// Traces that wait for their decision.
+    pub traces: u64,
+    /// Spans of these traces.
+    pub spans: u64,
+    /// For how long the oldest of these traces has waited, in milliseconds, or 0.
+    pub waited: u64,
+}
+
+/// What is told of the numbers of all threads while they grow. It changes nothing of what they do.
+pub trait Watcher {
+    /// A thread has counted so many spans, in the count that has this place in a report.
+    fn counted(&self, _place: usize, _spans: u64) {}
+
+    /// A shard holds so much.
+    fn holds(&self, _shard: u16, _load: ShardLoad) {}
+
+    /// A shard takes a span of which attributes were left out, by its sender or as they hold a double.
+    fn takes_incomplete(&self) {}
+
+    /// A shard has decided a trace, as sampled or not, by the policy at this place, from 0 on, if one decided.
+    fn decided(&self, _decider: Option<usize>, _is_sampled: bool) {}
+
+    /// A shard hands over a span whose trace was decided before.
+    fn handed_late(&self) {}
+}
+
+/// What holds no thread, and is told nothing.
+#[derive(Clone, Copy, PartialEq, Eq)]
+pub struct Unwatched;
+
+impl Barrier for Unwatched {}
+
+impl Watcher for Unwatched {}
