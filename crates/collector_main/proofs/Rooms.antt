@@ -13,10 +13,10 @@ abbrev pub with_room : Config → (room : ℕ) → Config
 with_room config room = record config { export_capacity = room }
 
 run : (manner : Manner) (config : Config) (room : ℕ) (old new : LineSinkState) (report : List ℕ) → IsCoreRunTo manner (with_room config room) old new report → IsCoreRunTo manner config old new report
-run manner config room old new report r = record { threads = r.threads; end = r.end; ran = r.ran; reports = r.reports; fits = r.fits; moments = r.moments; same_ticks = r.same_ticks; holds = r.holds }
+run manner config room old new report r = record { threads = r.threads; end = r.end; ran = r.ran; reports = r.reports; fits = r.fits; never_full = r.never_full; moments = r.moments; same_ticks = r.same_ticks; holds = r.holds }
 
 beyond : (manner : Manner) (config : Config) (room : ℕ) (old new : LineSinkState) → IsCoreRunBeyondTo manner (with_room config room) old new → IsCoreRunBeyondTo manner config old new
-beyond manner config room old new r = record { threads = r.threads; end = r.end; ran = r.ran; passes = r.passes; moments = r.moments; same_ticks = r.same_ticks; holds = r.holds }
+beyond manner config room old new r = record { threads = r.threads; end = r.end; ran = r.ran; passes = r.passes; never_full = r.never_full; moments = r.moments; same_ticks = r.same_ticks; holds = r.holds }
 
 pub tells : (manner : Manner) (config : Config) (room : ℕ) (taken : Option (List ℕ)) (failures : ℕ) (taken_after : Option (List ℕ)) (failures_after : ℕ) (answer : Result Report ServeFault)
     → CoreRunTellsTo manner (with_room config room) taken failures taken_after failures_after answer → CoreRunTellsTo manner config taken failures taken_after failures_after answer

@@ -1,6 +1,6 @@
 -- Lists of ends: one more, one less, one that was asked.
 -- For the contracts of `LaneQueue::new`, `Receiver::pop` and `reunite`.
-use Rattle.std.proofs.Common.{◌≡◌, ◌⊎◌, ℕ, zero, suc, ◌+◌, ◌<◌, ◌≤◌, List, [], ◌∷◌, ◌++◌, length, set, All, Some, slice_get, sym, refl, ap, ◌∙◌, subst, ⊎_elim, append_assoc, length-append, arith}
+use Rattle.std.proofs.Common.{◌≡◌, ◌⊎◌, Bool, ℕ, zero, suc, ◌+◌, ◌<◌, ◌≤◌, List, [], ◌∷◌, ◌++◌, length, set, All, Some, slice_get, sym, refl, ap, ◌∙◌, subst, ⊎_elim, append_assoc, length-append, arith}
 use native.Mathlib.Decide.{dec_le}
 use Rattle.std.proofs.lemmas.List.{append-nil}
 use Rattle.std.proofs.lemmas.List.{map-append}
@@ -8,7 +8,7 @@ use Rattle.std.proofs.lemmas.List.Elements.{All-push}
 use Rattle.lane_queue.specs.Moments.{HasHistory, WasEmpty}
 use Rattle.lane_queue.specs.declared.calls.Call.{Call}
 use Rattle.lane_queue.specs.declared.calls.Call.TheVariants.{Popped}
-use Rattle.lane_queue.specs.Ends.{EndState, ReceiverState, IsNew, queues, AreTied, WasEmptyAt, HasHistoryAt, TakesAt, PopsAt}
+use Rattle.lane_queue.specs.Ends.{EndState, ReceiverState, IsNew, WaitAs, queues, AreTied, WasEmptyAt, HasHistoryAt, TakesAt, PopsAt}
 
 -- what holds from a on and before b, and of b, holds before b + 1
 grow : (P : ℕ → Type 0) (a b : ℕ) → ((k : ℕ) → a ≤ k → k < b → P k) → P b → (k : ℕ) → a ≤ k → k < b + 1 → P k
@@ -85,6 +85,9 @@ module _ {T : Type 0} where
 
   pub new-push : (xs : List (EndState T)) (y : EndState T) → All IsNew xs → IsNew y → All IsNew (xs ++ y ∷ [])
   new-push xs y all here = All-push IsNew xs y all here
+
+  pub waits-push : (waits : Bool) (xs : List (EndState T)) (y : EndState T) → WaitAs waits xs → y.waits ≡ waits → WaitAs waits (xs ++ y ∷ [])
+  waits-push waits xs y all here = All-push (λ (e : EndState T). e.waits ≡ waits) xs y all here
 
   -- one more item at one end leaves the queues
   pub same_queues : (xs : List (EndState T)) (place : ℕ) (end new : EndState T) → slice_get xs place ≡ Some end → new.queue ≡ end.queue → queues (set xs place new) ≡ queues xs

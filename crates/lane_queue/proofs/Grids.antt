@@ -1,14 +1,14 @@
 -- Grids of ends that grow by a row, and lose one.
 -- For the contracts of `new_grid` and `reunite_grid`.
-use Rattle.std.proofs.Common.{◌≡◌, ℕ, zero, suc, ◌+◌, ◌<◌, ◌≤◌, List, [], ◌∷◌, ◌++◌, length, slice_get, Some, All, sym, refl, ap, ◌∙◌, subst, arith, length-append, append_assoc}
+use Rattle.std.proofs.Common.{◌≡◌, Bool, ℕ, zero, suc, ◌+◌, ◌<◌, ◌≤◌, List, [], ◌∷◌, ◌++◌, length, slice_get, Some, All, sym, refl, ap, ◌∙◌, subst, arith, length-append, append_assoc}
 use Rattle.std.specs.Prelude.{map, replicate, reverse}
 use Rattle.std.proofs.lemmas.List.{map-append, reverse-append, append-nil, length-map}
 use Rattle.std.proofs.lemmas.List.Elements.{All-nil, All-cons, All-head, All-tail, All-push, All-pop, All-replicate}
 use native.Mathlib.Decide.{dec_le}
 use Rattle.atomic_table.specs.Seated.{TableId}
-use Rattle.lane_queue.specs.Ends.{EndState, ReceiverState, IsNew, queues, AreTied, HasHistoryAt}
+use Rattle.lane_queue.specs.Ends.{EndState, ReceiverState, IsNew, WaitAs, queues, AreTied, HasHistoryAt}
 use Rattle.lane_queue.proofs.EndLists.{get_mid}
-use Rattle.lane_queue.specs.Grid.{dealt, columns_of, AreOfLength, AreLong, AreNewColumns, IsTiedGrid, HasRowHistory, HaveHistories}
+use Rattle.lane_queue.specs.Grid.{dealt, columns_of, AreOfLength, AreLong, AreNewColumns, ColumnsWaitAs, IsTiedGrid, HasRowHistory, HaveHistories}
 use Rattle.lane_queue.proofs.Dealing.{dealt_length}
 
 module _ {Y : Type 0} where
@@ -74,12 +74,19 @@ module _ {X : Type 0} where
   queues_dealt (c ∷ columns) [] = refl
   queues_dealt (c ∷ columns) (x ∷ row) = λ i. map-append (λ (e : EndState X). e.queue) c (x ∷ []) i ∷ queues_dealt columns row i
 
-  new_dealt : (columns : List (List (EndState X))) (row : List (EndState X)) → AreNewColumns columns → All IsNew row → AreNewColumns (dealt columns row)
-  new_dealt [] row old new = old
-  new_dealt (c ∷ columns) [] old new = old
-  new_dealt (c ∷ columns) (x ∷ row) old new =
-      let P : List (EndState X) → Type 0 = λ d. All IsNew d in
-      All-cons P (c ++ x ∷ []) (dealt columns row) (All-push IsNew c x (All-head P c columns old) (All-head IsNew x row new)) (new_dealt columns row (All-tail P c columns old) (All-tail IsNew x row new))
+  -- what is so of all ends, and of those of a row that is dealt
+  all_dealt : (P : EndState X → Type 0) (columns : List (List (EndState X))) (row : List (EndState X)) → All (λ (d : List (EndState X)). All P d) columns → All P row → All (λ (d : List (EndState X)). All P d) (dealt columns row)
+  all_dealt P [] row old new = old
+  all_dealt P (c ∷ columns) [] old new = old
+  all_dealt P (c ∷ columns) (x ∷ row) old new =
+      let Q : List (EndState X) → Type 0 = λ d. All P d in
+      All-cons Q (c ++ x ∷ []) (dealt columns row) (All-push P c x (All-head Q c columns old) (All-head P x row new)) (all_dealt P columns row (All-tail Q c columns old) (All-tail P x row new))
+
+  pub wait_first : (waits : Bool) (count : ℕ) (columns : List (List (EndState X))) → columns ≡ replicate count [] → ColumnsWaitAs waits columns
+  wait_first waits count columns is = subst (ColumnsWaitAs waits) (sym is) (All-replicate (λ (c : List (EndState X)). WaitAs waits c) count [] (All-nil (λ (e : EndState X). e.waits ≡ waits)))
+
+  pub wait_more : (waits : Bool) (columns new : List (List (EndState X))) (row : List (EndState X)) → ColumnsWaitAs waits columns → WaitAs waits row → new ≡ dealt columns row → ColumnsWaitAs waits new
+  wait_more waits columns new row old here is = subst (ColumnsWaitAs waits) (sym is) (all_dealt (λ (e : EndState X). e.waits ≡ waits) columns row old here)
 
   abbrev pub rows_of : List (ReceiverState X) → List (List TableId)
   rows_of receivers = reverse (map (λ (r : ReceiverState X). queues r.ends) receivers)
@@ -112,7 +119,7 @@ module _ {X : Type 0} where
         tied = queues_dealt columns row ∙ (deal_both ∙ ap (columns_of count) (sym (rows_more receivers r)));
         even = All-push (λ (s : ReceiverState X). length s.ends ≡ count) receivers r kept.even (sym (length-map r.ends (λ (e : EndState X). e.queue)) ∙ ap length (sym tied) ∙ length-map row (λ (e : EndState X). e.queue) ∙ lr);
         long = long_dealt rows columns row (lr ∙ sym lc) kept.long;
-        new_columns = new_dealt columns row kept.new_columns nr;
+        new_columns = all_dealt IsNew columns row kept.new_columns nr;
         new_receivers = All-push (λ (s : ReceiverState X). All IsNew s.ends) receivers r kept.new_receivers ne;
       })
 

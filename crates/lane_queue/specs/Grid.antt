@@ -1,7 +1,7 @@
 -- Queues from several senders to several receivers.
-use Rattle.std.specs.Prelude.{◌≡◌, ℕ, ◌<◌, ◌≤◌, List, [], ◌∷◌, ◌++◌, length, map, replicate, reverse, All, Some, slice_get, Vec, vec_capacity}
+use Rattle.std.specs.Prelude.{◌≡◌, ℕ, ◌<◌, ◌≤◌, Bool, List, [], ◌∷◌, ◌++◌, length, map, replicate, reverse, All, Some, slice_get, Vec, vec_capacity}
 use Rattle.atomic_table.specs.Seated.{TableId}
-use Rattle.lane_queue.specs.Ends.{EndState, ReceiverState, IsNew, queues, HasHistoryAt}
+use Rattle.lane_queue.specs.Ends.{EndState, ReceiverState, IsNew, WaitAs, queues, HasHistoryAt}
 
 module _ {X Z : Type 0} where
   -- the lists
@@ -42,6 +42,10 @@ module _ {X : Type 0} where
   -- nothing was pushed
   abbrev pub AreNewColumns : List (List (EndState X)) → Type 0
   AreNewColumns columns = All (λ (column : List (EndState X)). All IsNew column) columns
+
+  -- a lane's push waits for room at each of these ends, or at none
+  abbrev pub ColumnsWaitAs : Bool → List (List (EndState X)) → Type 0
+  ColumnsWaitAs waits columns = All (λ (column : List (EndState X)). WaitAs waits column) columns
 
   -- one history of each queue to this receiver has all that was pushed and popped there; a row has the senders' ends
   abbrev pub HasRowHistory : (capacity : ℕ) → List (List (EndState X)) → List (ReceiverState X) → (place : ℕ) → Type 0

@@ -1,7 +1,7 @@
 //! The queues are made and dealt.
 ghost use Rattle.std.specs.Prelude.{◌≡◌, ◌<◌, ◌≤◌, All, length, map, [], replicate, vec_len, vec_capacity, IfOk, OnOk};
 ghost use Rattle.lane_queue.specs.Ends.{IsNew};
-ghost use Rattle.lane_queue.specs.Grid.{ends_of, dealt, AreNewColumns, AreOfLength, HasRoom, IsTiedGrid};
+ghost use Rattle.lane_queue.specs.Grid.{ends_of, dealt, AreNewColumns, ColumnsWaitAs, AreOfLength, HasRoom, IsTiedGrid};
 
 use crate::ends::Sender;
 use crate::receiver::{LaneQueue, Receiver};
@@ -19,27 +19,29 @@ pub struct QueueGrid<T, C: Room> {
     pub rows: Vec<Vec<Sender<T, C>>>,
 }
 
-/// A new queue from each sender to each receiver, each of which may hold `capacity` items. All memory that is needed is
-/// taken here: `Err` where that was refused.
+/// A new queue from each sender to each receiver, each of which may hold `capacity` items. `waits`: a lane's push waits
+/// for room. All memory that is needed is taken here: `Err` where that was refused.
 pub fn new_grid<T: Drop, C: Room>(
     alloc: Global,
     capacity: usize,
+    waits: bool,
     senders: usize,
     receivers: usize,
 ) -> Result<QueueGrid<T, C>, AllocError>
     requires room { 0 < capacity }
-    requires picked { capacity ≡ C.capacity }
+    requires picked { (capacity ≡ C.capacity) × (waits ≡ C.waits) }
     ensures senders { IfOk result (λ grid. vec_len grid.columns ≡ senders) }
     ensures receivers { IfOk result (λ grid. vec_len grid.receivers ≡ receivers) }
     ensures even { IfOk result (λ grid. AreOfLength receivers (ends_of grid.columns.items)) }
     ensures tied { IfOk result (λ grid. IsTiedGrid (ends_of grid.columns.items) grid.receivers.items) }
     ensures rows { IfOk result (λ grid. (vec_len grid.rows ≡ receivers) × All (HasRoom senders) grid.rows.items) }
     ensures new { IfOk result (λ grid. AreNewColumns (ends_of grid.columns.items) × All (λ r. All IsNew r.ends) grid.receivers.items) }
+    ensures waits { IfOk result (λ grid. ColumnsWaitAs waits (ends_of grid.columns.items)) }
 {
     let mut columns = empty_lists(alloc, senders, receivers)?;
     let mut all = Vec::with_capacity(alloc, receivers)?;
     for _ in 0..receivers {
-        let (row, receiver) = LaneQueue::new::<T, C>(alloc, capacity, senders)?;
+        let (row, receiver) = LaneQueue::new::<T, C>(alloc, capacity, waits, senders)?;
         deal(&mut columns, row)?;
         all.push_reserved(receiver);
     }

@@ -30,4 +30,4 @@ pub ticks_more : (moment : ℕ) (rest : List ℕ) (number : ℕ) (ends : List (E
 ticks_more moment rest number [] = refl
 ticks_more moment rest number (e ∷ ends) =
     let same : (e.items ++ Tick moment ∷ []) ++ (map (λ m. Tick m) rest ++ End number ∷ []) ≡ e.items ++ (Tick moment ∷ (map (λ m. Tick m) rest ++ End number ∷ [])) = append_assoc e.items (Tick moment ∷ []) (map (λ m. Tick m) rest ++ End number ∷ []) in
-    λ i. record { queue = e.queue; items = same i } ∷ ticks_more moment rest number ends i
+    λ i. record { queue = e.queue; waits = e.waits; items = same i } ∷ ticks_more moment rest number ends i

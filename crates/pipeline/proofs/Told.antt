@@ -3,8 +3,11 @@
 use Rattle.std.proofs.Common.{◌≡◌, ◌⊎◌, ℕ, ◌+◌, ◌*◌, ◌/◌, ◌<◌, ◌≤◌, Bool, true, false, List, Option, Result, Ok, Err, inl, inr, sym, ap, subst, ◌∙◌, arith}
 use Rattle.std.proofs.Math.Nat.{lt-div-mul-add}
 use Rattle.drop_ledger.specs.declared.report.Report.{Report}
+use Rattle.span_ids.specs.declared.outcome.Reason.TheVariants.{QueueFull}
+use Rattle.drop_ledger.specs.declared.count.Count.TheVariants.{Dropped}
 use Rattle.drop_ledger.specs.Sums.{AreSums, Fits, SumPasses}
 use Rattle.otlp_types.specs.declared.arrival.Arrival.{Arrival}
+use Rattle.lane_queue.specs.Grid.{ColumnsWaitAs}
 use Rattle.lane_worker.specs.Serving.{LaneAt}
 use Rattle.span_exporter.specs.Exports.{ExporterState}
 use Rattle.span_sink.specs.Manners.{Manner, takes_all}
@@ -15,7 +18,7 @@ use Rattle.span_weave.proofs.Headlines.{woven_headline}
 use Rattle.tsc_config.specs.declared.config.Config.{Config}
 use Rattle.run_weave.specs.Received.{IsReceived}
 use Rattle.run_weave.specs.Workers.{any_full, parts_of}
-use Rattle.run_weave.specs.Ran.{Ran, Reports, CountPasses}
+use Rattle.run_weave.specs.Ran.{Ran, Reports, CountPasses, NeverFull}
 use Rattle.run_weave.proofs.Rans.{workers_ran}
 use Rattle.pipeline.specs.declared.fault.ServeFault.{ServeFault}
 use Rattle.pipeline.specs.declared.fault.ServeFault.TheVariants.{NoMemory, CounterOverflow, SinkDown}
@@ -53,6 +56,7 @@ module _ (manner : Manner) {F T : Type 0} (serves : ℕ → F → LaneAt → F �
       × (any_full h.left ≡ false → (lane : ℕ) → lane < config.lanes → ran.stopped lane ≡ false)
       × (any_full h.left ≡ false → (report : List ℕ) → AreSums (parts_of h.left) report → Reports (core_to manner config) config.lanes config.shards ran.threads ran.end report)
       × ((any_full h.left ≡ true) ⊎ SumPasses (parts_of h.left) → CountPasses (core_to manner config) config.lanes config.shards ran.threads ran.end)
+      × (ColumnsWaitAs true h.given.columns → NeverFull (core_to manner config) config.lanes config.shards ran.threads ran.end)
 
   ran_so : RanSo acceptors ticks old.sink new.sink
   ran_so = subst (λ (e : ExporterState). RanSo acceptors ticks old.sink e.sink) h.exporter_left
@@ -64,18 +68,23 @@ module _ (manner : Manner) {F T : Type 0} (serves : ℕ → F → LaneAt → F �
   ran_holds : HoldsOfThreads (core_to manner config) config.lanes config.shards ran_so.0.threads ran_so.0.end
   ran_holds = woven_headline (core_to manner config) config.lanes config.shards ran_so.0.threads ran_so.0.end (keeps_a_trace manner config some each) some ran_so.0.ran.meets
 
+  never_full : config.waits_for_room ≡ true → NeverFull (core_to manner config) config.lanes config.shards ran_so.0.threads ran_so.0.end
+  never_full retry = ran_so.4 (subst (λ (b : Bool). ColumnsWaitAs b h.given.columns) retry h.waits)
+
   is_run : (report : List ℕ) → (is_full ≡ false) × AreSums counts report × Fits report → IsRunTo manner receives ticks_give config acceptors ticks old.sink new.sink report
   is_run report told =
-      let none : any_full h.left ≡ false = sym h.full ∙ told.0 in record {
+      let none : any_full h.left ≡ false = sym h.full ∙ told.0 in
+      let counts_all = ran_so.2 none report (subst (λ (z : List (List ℕ)). AreSums z report) h.counted told.1) in record {
         ran = ran_so.0;
         none_stopped = ran_so.1 none;
-        reports = ran_so.2 none report (subst (λ (z : List (List ℕ)). AreSums z report) h.counted told.1);
+        reports = counts_all;
+        never_full = λ retry. counts_all (Dropped QueueFull) ∙ never_full retry;
         fits = told.2;
         holds = ran_holds;
       }
 
   is_beyond : (is_full ≡ true) ⊎ SumPasses counts → IsRunBeyondTo manner receives ticks_give config acceptors ticks old.sink new.sink
-  is_beyond told = record { ran = ran_so.0; passes = ran_so.3 (passes told); holds = ran_holds }
+  is_beyond told = record { ran = ran_so.0; passes = ran_so.3 (passes told); never_full = never_full; holds = ran_holds }
     where
       passes : (is_full ≡ true) ⊎ SumPasses counts → (any_full h.left ≡ true) ⊎ SumPasses (parts_of h.left)
       passes (inl e) = inl (sym h.full ∙ e)
@@ -102,10 +111,10 @@ module _ (manner : Manner) {F T : Type 0} (receives : ℕ → F → LaneAt → L
   -- where nothing is said of the connections and the ticks
   pub core_told : (taken : Option (List ℕ)) (failures : ℕ) (taken_after : Option (List ℕ)) (failures_after : ℕ) (answer : Result Report ServeFault) → RunTellsTo manner receives ticks_give config acceptors ticks taken failures taken_after failures_after answer
       → CoreRunTellsTo manner config taken failures taken_after failures_after answer
-  core_told taken failures taken_after failures_after (Ok report) h = record { threads = h.ran.threads; end = h.ran.end; ran = h.ran.ran; reports = h.reports; fits = h.fits; moments = h.ran.moments; same_ticks = h.ran.same_ticks; holds = h.holds }
-  core_told taken failures taken_after failures_after (Err (SinkDown report)) h = record { threads = h.ran.threads; end = h.ran.end; ran = h.ran.ran; reports = h.reports; fits = h.fits; moments = h.ran.moments; same_ticks = h.ran.same_ticks; holds = h.holds }
+  core_told taken failures taken_after failures_after (Ok report) h = record { threads = h.ran.threads; end = h.ran.end; ran = h.ran.ran; reports = h.reports; fits = h.fits; never_full = h.never_full; moments = h.ran.moments; same_ticks = h.ran.same_ticks; holds = h.holds }
+  core_told taken failures taken_after failures_after (Err (SinkDown report)) h = record { threads = h.ran.threads; end = h.ran.end; ran = h.ran.ran; reports = h.reports; fits = h.fits; never_full = h.never_full; moments = h.ran.moments; same_ticks = h.ran.same_ticks; holds = h.holds }
   core_told taken failures taken_after failures_after (Err NoMemory) h = tt
-  core_told taken failures taken_after failures_after (Err CounterOverflow) h = (h.0, record { threads = h.1.ran.threads; end = h.1.ran.end; ran = h.1.ran.ran; passes = h.1.passes; moments = h.1.ran.moments; same_ticks = h.1.ran.same_ticks; holds = h.1.holds })
+  core_told taken failures taken_after failures_after (Err CounterOverflow) h = (h.0, record { threads = h.1.ran.threads; end = h.1.ran.end; ran = h.1.ran.ran; passes = h.1.passes; never_full = h.1.never_full; moments = h.1.ran.moments; same_ticks = h.1.ran.same_ticks; holds = h.1.holds })
 
 module _ (manner : Manner) {F T : Type 0} (serves : ℕ → F → LaneAt → F → LaneAt → Bool → Type 0) (receives : ℕ → F → LaneAt → List Arrival → F → LaneAt → List Arrival → Bool → Type 0) (law : IsReceived serves receives) (ticks_give : T → Option ℕ → T → Type 0) (config : Config) (acceptors : List F) (ticks : T) (some : 0 < config.shards) (each : config.shards ≤ config.num_traces) where
   -- what was received of the connections, by the law of how they were served

@@ -1,5 +1,5 @@
 -- What the threads of a run are given, and the lists into which what they leave is gathered.
-use Rattle.std.specs.Prelude.{◌≡◌, ℕ, ◌+◌, true, false, List, [], ◌∷◌, ◌++◌, length, All}
+use Rattle.std.specs.Prelude.{◌≡◌, ℕ, ◌+◌, Bool, true, false, List, [], ◌∷◌, ◌++◌, length, All}
 use Rattle.otlp_types.specs.declared.arrival.Item.{Item}
 use Rattle.otlp_types.specs.declared.arrival.Shipment.{Shipment}
 use Rattle.lane_queue.specs.Ends.{EndState, ReceiverState, AreTied, IsNew}
@@ -20,9 +20,10 @@ abbrev pub NumberedFrom : (first : ℕ) → List ℕ → Type 0
 NumberedFrom first [] = Unit {0}
 NumberedFrom first (number ∷ numbers) = (number ≡ first) × NumberedFrom (first + 1) numbers
 
--- a configuration by which shards can be made, over queues of these capacities
-abbrev pub CanRun : Config → (queue export : ℕ) → Type 0
-CanRun config queue export = CanBegin config × (config.queue_capacity ≡ queue) × (config.export_capacity ≡ export)
+-- a configuration by which shards can be made, over queues of these capacities, at which a lane's push waits for room or
+-- doesn't; a shard is no lane
+abbrev pub CanRun : Config → (queue : ℕ) → (waits : Bool) → (export : ℕ) → (export_waits : Bool) → Type 0
+CanRun config queue waits export export_waits = CanBegin config × (config.queue_capacity ≡ queue) × (config.export_capacity ≡ export) × (config.waits_for_room ≡ waits) × (export_waits ≡ false)
 
 -- a seat is at each limiter node of these policies
 abbrev pub HasNodes : (seat : List Stand) → List Policy → Type 0

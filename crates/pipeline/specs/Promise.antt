@@ -1,8 +1,12 @@
 -- What a run of the pipeline promises: what its threads did is a run of the core.
-use Rattle.std.specs.Prelude.{◌≡◌, ℕ, ◌+◌, ◌<◌, Bool, false, List, Option, Result, Ok, Err}
+use Rattle.std.specs.Prelude.{◌≡◌, ℕ, ◌+◌, ◌<◌, Bool, true, false, List, slice_index, Option, Result, Ok, Err}
+use Rattle.span_ids.specs.declared.outcome.Reason.TheVariants.{QueueFull}
+use Rattle.drop_ledger.specs.declared.count.Count.TheVariants.{Dropped}
+use Rattle.drop_ledger.specs.Places.{place_of}
 use Rattle.drop_ledger.specs.Sums.{Fits}
 use Rattle.drop_ledger.specs.declared.report.Report.{Report}
 use Rattle.otlp_types.specs.declared.arrival.Arrival.{Arrival}
+use Rattle.lane_queue.specs.Grid.{ColumnsWaitAs}
 use Rattle.lane_worker.specs.Serving.{LaneAt}
 use Rattle.policy_tree.specs.declared.limiter_node.LimiterNode.{LimiterNode}
 use Rattle.policy_tree.specs.Meaning.{meaning}
@@ -17,7 +21,7 @@ use Rattle.span_weave.specs.Threads.{Threads, ExporterMade}
 use Rattle.span_weave.specs.Woven.{HoldsOfThreads}
 use Rattle.tsc_config.specs.declared.config.Config.{Config}
 use Rattle.run_weave.specs.Workers.{Given, Left, Worked, any_full, parts_of}
-use Rattle.run_weave.specs.Ran.{ThreadsRan, Ran, Reports, CountPasses}
+use Rattle.run_weave.specs.Ran.{ThreadsRan, Ran, Reports, CountPasses, NeverFull}
 use Rattle.pipeline.specs.declared.fault.ServeFault.{ServeFault}
 use Rattle.pipeline.specs.declared.fault.ServeFault.TheVariants.{NoMemory, CounterOverflow, SinkDown}
 use Rattle.pipeline.specs.Outcome.{TellsCounts, TellsSink}
@@ -37,6 +41,10 @@ HasSettings config shard = settings shard ≡ settings_for (core_of config) (con
 -- the limiter nodes of the policies
 abbrev pub nodes_of : Config → List LimiterNode
 nodes_of config = limiters (meaning config.policies)
+
+-- the report counts no span as one that found a queue full
+abbrev pub HasNoneFull : (report : List ℕ) → Type 0
+HasNoneFull report = slice_index report (place_of (Dropped QueueFull)) ≡ 0
 
 -- what each answer tells of the run, by the destination's bytes and failures before and after: such a run left this report, or
 -- one of which no report can tell
@@ -59,6 +67,8 @@ module _ {F T : Type 0} (serves : ℕ → F → LaneAt → F → LaneAt → Bool
     pub exporter_left : left.exporter.exporter ≡ new
     pub counted : counts ≡ parts_of left
     pub full : is_full ≡ any_full left
+    -- a lane's push waits for room where the configuration says so
+    pub waits : ColumnsWaitAs config.waits_for_room given.columns
 
   -- what an answer tells of threads that did so: the sums of what they counted, and whether the sink is down; where
   -- there was no memory at the start none did anything
@@ -88,12 +98,15 @@ module _ (manner : Manner) {F T : Type 0} (receives : ℕ → F → LaneAt → L
     -- no count passes 2^64-1
     pub reports : Reports (core_to manner config) config.lanes config.shards ran.threads ran.end report
     pub fits : Fits report
+    -- where lanes wait for room, none is counted that found a queue full
+    pub never_full : config.waits_for_room ≡ true → HasNoneFull report
     pub holds : HoldsOfThreads (core_to manner config) config.lanes config.shards ran.threads ran.end
 
   -- the same of a run some of whose counts passes 2^64-1, so that there is no report of it
   pub record IsRunBeyondTo (old new : LineSinkState) : Type 0 where
     pub ran : Ran receives ticks_give (core_to manner config) (nodes_of config) config.keeps_doubles config.queue_capacity config.lanes config.shards servers ticks old new
     pub passes : CountPasses (core_to manner config) config.lanes config.shards ran.threads ran.end
+    pub never_full : config.waits_for_room ≡ true → NeverFull (core_to manner config) config.lanes config.shards ran.threads ran.end
     pub holds : HoldsOfThreads (core_to manner config) config.lanes config.shards ran.threads ran.end
 
   -- what each answer tells of the run
@@ -116,6 +129,8 @@ module _ (manner : Manner) (config : Config) where
     pub ran : ThreadsRan (core_to manner config) (nodes_of config) config.queue_capacity config.lanes config.shards old new threads end
     pub reports : Reports (core_to manner config) config.lanes config.shards threads end report
     pub fits : Fits report
+    -- where lanes wait for room, none is counted that found a queue full
+    pub never_full : config.waits_for_room ≡ true → HasNoneFull report
     pub moments : List ℕ
     pub same_ticks : (shard : ℕ) → threads.ticks shard ≡ moments
     pub holds : HoldsOfThreads (core_to manner config) config.lanes config.shards threads end
@@ -126,6 +141,7 @@ module _ (manner : Manner) (config : Config) where
     pub end : ExporterMade
     pub ran : ThreadsRan (core_to manner config) (nodes_of config) config.queue_capacity config.lanes config.shards old new threads end
     pub passes : CountPasses (core_to manner config) config.lanes config.shards threads end
+    pub never_full : config.waits_for_room ≡ true → NeverFull (core_to manner config) config.lanes config.shards threads end
     pub moments : List ℕ
     pub same_ticks : (shard : ℕ) → threads.ticks shard ≡ moments
     pub holds : HoldsOfThreads (core_to manner config) config.lanes config.shards threads end

@@ -29,7 +29,6 @@ pub fn lane_jobs<'s, Server: Drop, QueueRoom: Room, Observer, Mark, Time, Runtim
     acceptors: Vec<Server>,
     columns: Vec<Vec<Sender<Item, QueueRoom>>>,
 ) -> Result<LaneJobs<'s, Server, QueueRoom, Observer, Mark, Time, Runtime>, Vec<Server>>
-    requires waits { asks_again ≡ QueueRoom.waits }
     requires few { vec_len acceptors < 65536 }
     requires columns { (vec_len columns ≡ vec_len acceptors) × All (λ c. 0 < length c.items) columns.items }
     ensures count { IfOk result (λ made. vec_len made.jobs ≡ vec_len acceptors) }
@@ -94,7 +93,6 @@ fn lane_job<'s, Server: Drop, QueueRoom: Room, Observer, Mark, Time, Runtime: Wa
     senders: Vec<Sender<Item, QueueRoom>>,
     lists: LaneLists<'s, QueueRoom, Runtime>,
 ) -> LaneJob<'s, Server, QueueRoom, Observer, Mark, Time, Runtime>
-    requires waits { asks_again ≡ QueueRoom.waits }
     requires some { 0 < length senders.items }
     requires ports { (lists.ports.items ≡ []) × (length senders.items ≤ vec_capacity lists.ports) }
     requires room { (lists.room.items ≡ []) × (length senders.items ≤ vec_capacity lists.room) }
@@ -150,14 +148,13 @@ fn lane_of<'s, C: Room, R: Wait>(
     senders: Vec<Sender<Item, C>>,
     ports: Vec<SenderPort<'s, Item, C, R>>,
 ) -> Lane<SenderPort<'s, Item, C, R>>
-    requires waits { asks_again ≡ C.waits }
     requires some { 0 < length senders.items }
     requires room { (ports.items ≡ []) × (length senders.items ≤ vec_capacity ports) }
     ensures { result ≡ record { number = number; connected = 0; ports = senders.items; keeps_doubles = false } }
 {
     let mut ports = ports;
     for sender in senders {
-        ports.push_reserved(SenderPort::new(rt, sender, asks_again, brake));
+        ports.push_reserved(SenderPort::new(rt, sender, brake));
     }
     // With a brake, too, it looks before a request's spans get numbers (D-173).
     Lane::new(number, ports).asking_again(asks_again || brake.is_some())

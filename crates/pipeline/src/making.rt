@@ -1,7 +1,7 @@
 //! All that a run needs is made before a thread is started.
 ghost use Rattle.std.specs.Prelude.{◌≡◌, ◌+◌, ◌++◌, ◌∷◌, ◌<◌, ◌≤◌, [], All, length, map, vec_len, vec_capacity, IfErr, IfOk};
 ghost use Rattle.lane_queue.specs.Ends.{AreTied, IsNew};
-ghost use Rattle.lane_queue.specs.Grid.{AreNewColumns, HasRoom, IsTiedGrid, ends_of};
+ghost use Rattle.lane_queue.specs.Grid.{AreNewColumns, ColumnsWaitAs, HasRoom, IsTiedGrid, ends_of};
 ghost use Rattle.shared_budget.specs.Budget.{AreNewSeats};
 ghost use Rattle.tsc_config.specs.declared.config.Config.{Config};
 ghost use Rattle.pipeline.specs.Made.{NumberedFrom, CanRun, IsReady, HasEnds};
@@ -82,8 +82,7 @@ pub fn make<
     Made<'s, Server, TickSource, QueueRoom, ExportRoom, Observer, Mark, Time, Runtime>,
     (Vec<Server>, TickSource),
 >
-    requires runs { CanRun config.now QueueRoom.capacity ExportRoom.capacity }
-    requires waits { config.now.waits_for_room ≡ QueueRoom.waits }
+    requires runs { CanRun config.now QueueRoom.capacity QueueRoom.waits ExportRoom.capacity ExportRoom.waits }
     requires acceptors { vec_len acceptors ≡ config.now.lanes }
     ensures lanes { IfOk result (λ made. (vec_len made.team.first ≡ config.now.lanes)
         × All (λ job. (job.lane.number ≡ job.number) × (job.room.items ≡ []) × (length job.lane.ports ≤ vec_capacity job.room)) made.team.first.items) }
@@ -97,6 +96,7 @@ pub fn make<
     ensures new_shards { IfOk result (λ made. All (λ job. HasSettings config.now job.shard) made.team.third.items) }
     ensures ends { IfOk result (λ made. HasEnds (nodes_of config.now) config.now.shards (map (λ job. job.lane.ports) made.team.first.items) made.team.second.senders.items
         (map (λ job. job.receiver) made.team.third.items) (map (λ job. job.sender) made.team.third.items) (map (λ job. job.seat) made.team.third.items) made.shipments) }
+    ensures waits { IfOk result (λ made. ColumnsWaitAs config.now.waits_for_room (map (λ job. job.lane.ports) made.team.first.items)) }
     ensures columns { IfOk result (λ made. (made.rooms.columns.items ≡ []) × (config.now.lanes + 1 ≤ vec_capacity made.rooms.columns)) }
     ensures seats { IfOk result (λ made. (made.rooms.ends.seats.items ≡ []) × (config.now.shards ≤ vec_capacity made.rooms.ends.seats)) }
     ensures receivers { IfOk result (λ made. (made.rooms.ends.receivers.items ≡ []) × (config.now.shards ≤ vec_capacity made.rooms.ends.receivers)) }
@@ -158,8 +158,7 @@ fn team_of<
     ),
     (Vec<Server>, TickSource),
 >
-    requires runs { CanRun config.now QueueRoom.capacity ExportRoom.capacity }
-    requires waits { config.now.waits_for_room ≡ QueueRoom.waits }
+    requires runs { CanRun config.now QueueRoom.capacity QueueRoom.waits ExportRoom.capacity ExportRoom.waits }
     requires acceptors { (vec_len acceptors ≡ config.now.lanes) × (vec_len acceptors < 65536) }
     requires columns { (vec_len columns ≡ config.now.lanes + 1) × All (λ c. 0 < length c.items) columns.items }
     requires seats { AreNewSeats (nodes_of config.now) config.now.shards ends.seats.items }
@@ -224,9 +223,10 @@ fn run_ends<'s, C: Room, D: Room, R: Wait>(
     alloc: Global,
     config: &Config,
 ) -> Result<RunEnds<'s, C, D, R>, AllocError>
-    requires { CanRun config.now C.capacity D.capacity }
+    requires { CanRun config.now C.capacity C.waits D.capacity D.waits }
     ensures columns { IfOk result (λ made. (vec_len made.columns ≡ config.now.lanes + 1) × All (λ c. 0 < length c.items) made.columns.items) }
     ensures grid { IfOk result (λ made. IsTiedGrid (ends_of made.columns.items) made.ends.receivers.items × AreNewColumns (ends_of made.columns.items)) }
+    ensures waits { IfOk result (λ made. ColumnsWaitAs config.now.waits_for_room (ends_of made.columns.items)) }
     ensures seats { IfOk result (λ made. AreNewSeats (nodes_of config.now) config.now.shards made.ends.seats.items) }
     ensures receivers { IfOk result (λ made. (vec_len made.ends.receivers ≡ config.now.shards) × All (λ r. All IsNew r.ends) made.ends.receivers.items) }
     ensures exports { IfOk result (λ made. (vec_len made.ends.exports ≡ config.now.shards) × All IsNew made.ends.exports.items) }
@@ -238,9 +238,16 @@ fn run_ends<'s, C: Room, D: Room, R: Wait>(
     let (exports, shipments) = LaneQueue::new::<Shipment, D>(
         alloc,
         config.export_capacity,
+        false,
         shards,
     )?;
-    let grid = new_grid::<Item, C>(alloc, config.queue_capacity, senders, shards)?;
+    let grid = new_grid::<Item, C>(
+        alloc,
+        config.queue_capacity,
+        config.waits_for_room,
+        senders,
+        shards,
+    )?;
     let QueueGrid {
         columns,
         receivers,

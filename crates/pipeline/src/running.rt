@@ -225,8 +225,7 @@ fn run_in<
     Result<Report, ServeFault>,
     Option<(Vec<Server>, TickSource)>,
 )
-    requires runs { CanRun config.now QueueRoom.capacity ExportRoom.capacity }
-    requires waits { config.now.waits_for_room ≡ QueueRoom.waits }
+    requires runs { CanRun config.now QueueRoom.capacity QueueRoom.waits ExportRoom.capacity ExportRoom.waits }
     requires servers { vec_len servers ≡ config.now.lanes }
     requires new_exporter { (exporter.batch ≡ []) × (0 < exporter.size) × (list_any (λ ended. ended) exporter.ends ≡ false) × (exporter.sink.is_down ≡ false) }
     requires exporter_is { (exporter.size ≡ config.now.send_batch_size) × (length exporter.ends ≡ config.now.shards) }
@@ -309,8 +308,7 @@ fn run_over<
     ticks: TickSource,
     exporter: Exporter<Output>,
 ) -> Result<(Exporter<Output>, ThreadCounts), (Exporter<Output>, Vec<Server>, TickSource)>
-    requires runs { CanRun config.now QueueRoom.capacity ExportRoom.capacity }
-    requires waits { config.now.waits_for_room ≡ QueueRoom.waits }
+    requires runs { CanRun config.now QueueRoom.capacity QueueRoom.waits ExportRoom.capacity ExportRoom.waits }
     requires servers { vec_len servers ≡ config.now.lanes }
     requires new_exporter { (exporter.batch ≡ []) × (0 < exporter.size) × (list_any (λ ended. ended) exporter.ends ≡ false) × (exporter.sink.is_down ≡ false) }
     requires exporter_ends { length exporter.ends ≡ config.now.shards }

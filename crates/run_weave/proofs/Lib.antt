@@ -1,5 +1,6 @@
 pub mod Counted
 pub mod Places
+pub mod NeverFull
 pub mod Tallied
 pub mod Logs
 pub mod OneByOne

@@ -44,6 +44,7 @@ use Rattle.run_weave.specs.Workers.{zeros}
 use Rattle.run_weave.specs.Received.{Tallied, lane_gains, Keeps}
 use Rattle.run_weave.proofs.Counted.{any_uncounted, full_as_uncounted}
 use Rattle.run_weave.proofs.Tallied.{gained_there}
+use Rattle.run_weave.proofs.NeverFull.{all_wait}
 
 -- ---- what a lane counts
 
@@ -194,6 +195,10 @@ module _ (capacity number : ℕ) (first : List (EndState Item)) where
       tries = tries_then capacity (λ (e : EndState Item). e.items) old.received came first old.at.lane.ports new.lane.ports k.refused r.refused k.tries
           (pushes_are_tries (TakesItem capacity) (IsRefused capacity) capacity (λ (e : EndState Item). e.items) (grows capacity) (stays capacity) (fills capacity) came old.at.lane.ports r.refused new.lane.ports r.pushed);
       counts = more_counted is_full is_counted k.counts counts;
+      waiting = λ all.
+          let before = k.waiting all in
+          let now = all_wait capacity came old.at.lane.ports new.lane.ports r.refused r.pushed before.1 in
+          (omega (arith, before.0, now.0), now.1);
     };
     lane_is = ap (λ (l : LaneState (EndState Item)). l.number) lane ∙ o.lane_is;
     key_is = ap (λ (c : Conn). c.key.lane) conn ∙ o.key_is;

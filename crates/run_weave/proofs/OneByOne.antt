@@ -22,7 +22,7 @@ no_gains = each_count (λ count. lane_gains [] 0 count ≡ 0) refl refl refl ref
 
 -- a lane that has received nothing
 pub keeps_first : (capacity number : ℕ) (ports : List (EndState Item)) → Keeps capacity number ports false [] ports zeros
-keeps_first capacity number ports = record { refused = 0; numbered = none_numbered number; tries = no_tries capacity (λ (e : EndState Item). e.items) ports; counts = gains_none (lane_gains [] 0) zeros no_gains }
+keeps_first capacity number ports = record { refused = 0; numbered = none_numbered number; tries = no_tries capacity (λ (e : EndState Item). e.items) ports; counts = gains_none (lane_gains [] 0) zeros no_gains; waiting = λ all. (refl, all) }
 
 module _ {V F X : Type 0} (acceptor_of : V → F) (gives : F → Option X → F → Type 0) (known : X → Connection) where
   pub one_by_one : IsReceived (serves_one_by_one acceptor_of gives known) (receives_one_by_one acceptor_of gives known)

@@ -7,7 +7,7 @@ use Rattle.span_ids.specs.declared.outcome.Reason.TheVariants.{InvalidId, QueueF
 use Rattle.drop_ledger.specs.declared.count.Count.{Count}
 use Rattle.drop_ledger.specs.declared.count.Count.TheVariants.{Received, Handed, Dropped}
 use Rattle.drop_ledger.specs.Places.{Gains, Passes}
-use Rattle.lane_queue.specs.Ends.{EndState, TakesItem, IsRefused}
+use Rattle.lane_queue.specs.Ends.{EndState, WaitAs, TakesItem, IsRefused}
 use Rattle.http_text.specs.declared.allowed.Allowed.{Allowed}
 use Rattle.http_lane.specs.declared.turns.Exchange.{Exchange}
 use Rattle.http_lane.specs.Connection.{SubmitsAll, submissions}
@@ -84,12 +84,13 @@ Tallied true gained counted = Passes gained zeros
 Tallied false gained counted = Gains gained zeros counted
 
 -- what was received is numbered, and was tried at ports that were first these, and counted, unless a number would have
--- passed 2^64-1
+-- passed 2^64-1; where a push waits for room at each port, none was refused, and it waits there still
 pub record Keeps (capacity number : ℕ) (first : List (EndState Item)) (is_full : Bool) (received : List Arrival) (ports : List (EndState Item)) (counted : List ℕ) : Type 0 where
   pub refused : ℕ
   pub numbered : AreNumbered number received
   pub tries : TriesOf capacity (λ (e : EndState Item). e.items) received first refused ports
   pub counts : Tallied is_full (lane_gains received refused) counted
+  pub waiting : WaitAs true first → (refused ≡ 0) × WaitAs true ports
 
 -- of all that is served of a lane with new numbers, which keeps doubles or discards them, something was received, and
 -- it is kept so

@@ -1,5 +1,5 @@
 //! A queue of two and one of the greatest capacity through their ends, and two senders on threads of their own.
-ghost use Rattle.std.specs.Prelude.{◌≡◌, ◌<◌};
+ghost use Rattle.std.specs.Prelude.{◌≡◌, ◌<◌, false};
 ghost use Rattle.lane_queue.specs.Ends.{queues};
 
 use lane_queue::{LaneQueue, Receiver, Room, Sender, reunite};
@@ -40,9 +40,9 @@ fn pushed_and_popped<C: Room, R: Wait>(
     alloc: Global,
     capacity: usize,
 ) -> Result<[Option<Item>; 7], AllocError>
-    requires { (0 < capacity) × (capacity ≡ C.capacity) }
+    requires { (0 < capacity) × (capacity ≡ C.capacity) × (false ≡ C.waits) }
 {
-    let (mut senders, mut receiver) = LaneQueue::new::<Item, C>(alloc, capacity, 1)?;
+    let (mut senders, mut receiver) = LaneQueue::new::<Item, C>(alloc, capacity, false, 1)?;
     let answers = answers(rt, &mut senders[0], &mut receiver);
     reunite(receiver, senders);
     Ok(answers)
@@ -62,9 +62,9 @@ fn queue_of_two(rt: HostRuntime) -> Result<(), Fail> {
 
 /// Whether a queue of this capacity takes just so many items, and gives them in order.
 fn fills<C: Room, R: Wait>(rt: &R, alloc: Global, capacity: u32) -> Result<bool, AllocError>
-    requires { (0 < capacity) × (capacity ≡ C.capacity) }
+    requires { (0 < capacity) × (capacity ≡ C.capacity) × (false ≡ C.waits) }
 {
-    let (mut senders, mut receiver) = LaneQueue::new::<Item, C>(alloc, capacity as usize, 1)?;
+    let (mut senders, mut receiver) = LaneQueue::new::<Item, C>(alloc, capacity as usize, false, 1)?;
     let sender = &mut senders[0];
     let mut fits = true;
     for item in 0..capacity {
@@ -145,9 +145,9 @@ fn two_senders<C: Room + Send + Sync, R: Threads + Wait + Clock + Sync>(
     alloc: Global,
     capacity: usize,
 ) -> Result<bool, AllocError>
-    requires { (0 < capacity) × (capacity ≡ C.capacity) }
+    requires { (0 < capacity) × (capacity ≡ C.capacity) × (false ≡ C.waits) }
 {
-    let (mut senders, receiver) = LaneQueue::new::<Item, C>(alloc, capacity, 2)?;
+    let (mut senders, receiver) = LaneQueue::new::<Item, C>(alloc, capacity, false, 2)?;
     let second = senders.take_last();
     let first = senders.take_last();
     let ((first, second), (receiver, in_order)) = thread::join(

@@ -159,6 +159,7 @@ returns-in-Ok-run_team-clause-worked g c =
       left = left;
       worked = subst (λ n. Worked g.Server.LaneServer.serves g.TickSource.Ticks.gives (settings_for (core_of c.args.config.now) (c.args.config.now.lanes + 1)) (nodes_of c.args.config.now) c.args.config.now.keeps_doubles n c.args.config.now.export_capacity c.args.config.now.lanes c.args.config.now.shards (given_of g b) left) (sym c.requires.runs.1)
           (subst (λ n. Worked g.Server.LaneServer.serves g.TickSource.Ticks.gives (settings_for (core_of c.args.config.now) (c.args.config.now.lanes + 1)) (nodes_of c.args.config.now) c.args.config.now.keeps_doubles g.QueueRoom.Room.capacity n c.args.config.now.lanes c.args.config.now.shards (given_of g b) left) (sym c.requires.runs.2) all);
+      waits = c.in-Ok.ensures.waits;
       acceptors_are = c.in-Ok.ensures.acceptors;
       ticks_are = c.in-Ok.ensures.ticker.1;
       exporter_is = refl;
