@@ -6,20 +6,17 @@
 //! `tsc version` print what they say.
 #![tactic(auto)]
 
-mod asking;
 mod changed_settings;
 mod closing;
 mod collecting;
-mod configuration;
 mod logging;
 mod opening;
 mod program;
 mod running;
 mod sending;
-mod showing;
-mod validating;
 
-use crate::program::{Surroundings, program, without_memory};
+use crate::program::program;
+use collector_commands::{Surroundings, without_memory};
 use std::alloc::{Alloc, Global};
 use std::io::{ErrorKind, Stderr, Stdin};
 use std::process::ExitCode;

@@ -1,10 +1,10 @@
 use Rattle.std.proofs.Common.{map, refl, subst}
 use Rattle.std.specs.Prelude.{Err, string_bytes}
-use Rattle.collector_main.specs.Configuration.{file_of}
-use Rattle.collector_main.specs.Ending.{AsksFor}
-use Rattle.collector_main.specs.declared.configuration.FileFault.TheVariants.{Unreadable}
-use Rattle.collector_main.specs.declared.configuration.ReadFault.TheVariants.{Other}
-use Rattle.collector_main.specs.declared.program.Command.TheVariants.{Replay, Serve, Validate, Close, Show, Help, Version}
+use Rattle.collector_commands.specs.Configuration.{file_of}
+use Rattle.collector_commands.specs.Courses.{AsksFor}
+use Rattle.collector_commands.specs.declared.configuration.FileFault.TheVariants.{Unreadable}
+use Rattle.collector_commands.specs.declared.configuration.ReadFault.TheVariants.{Other}
+use Rattle.collector_commands.specs.declared.asking.Command.TheVariants.{Replay, Serve, Validate, Close, Show, Help, Version}
 use Rattle.collector_main.proofs.Courses.{CameTo-does}
 use Rattle.collector_main.proofs.program.run.Goals as goal
 
