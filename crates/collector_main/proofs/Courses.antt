@@ -1,18 +1,19 @@
 -- How the outcome of what is asked for arises.
 -- For what `run` ensures.
-use Rattle.collector_main.specs.declared.program.Command.{Command}
-use Rattle.collector_main.specs.declared.program.Command.TheVariants.{Replay, Serve, Validate, Close, Show, Help, Version}
-use Rattle.collector_main.specs.declared.program.Outcome.{Outcome}
-use Rattle.collector_main.specs.declared.program.Outcome.TheVariants as is
+use Rattle.collector_commands.specs.declared.asking.Command.{Command}
+use Rattle.collector_commands.specs.declared.asking.Command.TheVariants.{Replay, Serve, Validate, Close, Show, Help, Version}
+use Rattle.collector_commands.specs.declared.outcome.Outcome.{Outcome}
+use Rattle.collector_commands.specs.declared.outcome.Outcome.TheVariants as is
 use Rattle.std.specs.Prelude.{◌≡◌, ℕ, List, Option, Result, Ok, Err}
-use Rattle.collector_main.specs.declared.configuration.FileFault.{FileFault}
-use Rattle.collector_main.specs.declared.configuration.FileFault.TheVariants as file_is
-use Rattle.collector_main.specs.Validating.{FileTells}
+use Rattle.collector_commands.specs.declared.configuration.FileFault.{FileFault}
+use Rattle.collector_commands.specs.declared.configuration.FileFault.TheVariants as file_is
+use Rattle.collector_commands.specs.Validating.{FileTells}
 use Rattle.collector_main.specs.Closing.{FileCloses}
 use Rattle.request_show.specs.declared.body.BodyFault.{BodyFault}
 use Rattle.request_show.specs.declared.body.BodyFault.TheVariants as body_is
-use Rattle.collector_main.specs.Showing.{BodyShows}
-use Rattle.collector_main.specs.Ending.{Course, CameTo, Does, AsksFor}
+use Rattle.collector_commands.specs.Showing.{BodyShows}
+use Rattle.collector_commands.specs.Courses.{Course, AsksFor}
+use Rattle.collector_main.specs.Ending.{CameTo, Does}
 
 untold : (file : Result (List ℕ) FileFault) → FileTells file is.Usage → ⊥
 untold (Ok bytes) tells = tells

@@ -5,10 +5,11 @@ use Rattle.drop_ledger.specs.declared.report.Report.{Report}
 use Rattle.pipeline.specs.declared.fault.ServeFault.{ServeFault}
 use Rattle.pipeline.specs.declared.fault.ServeFault.TheVariants.{NoMemory, CounterOverflow, SinkDown}
 use Rattle.tsc_config.specs.declared.config.Config.{Config}
-use Rattle.collector_main.specs.Configuration.{IsConfigOf}
-use Rattle.collector_main.specs.Outcomes.{served_to}
-use Rattle.collector_main.specs.Ending.{Course, SendsTo, RunsTo, FilesTo, RanOn, Serves, prints, writes_file}
-use Rattle.collector_main.specs.declared.program.Outcome.{Outcome}
+use Rattle.collector_commands.specs.Configuration.{IsConfigOf}
+use Rattle.collector_main.specs.Serving.{served_to}
+use Rattle.collector_commands.specs.Courses.{Course}
+use Rattle.collector_main.specs.Serving.{SendsTo, RunsTo, FilesTo, RanOn, Serves, prints, writes_file}
+use Rattle.collector_commands.specs.declared.outcome.Outcome.{Outcome}
 
 -- what a run by a configuration answered
 Serves-answered : (course : Course) (answer : Result Report ServeFault) → RanOn course (served_to answer) → Serves course (served_to answer)

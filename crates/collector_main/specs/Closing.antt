@@ -1,10 +1,10 @@
 -- What comes of asking a running collector to close: no clause says what a socket does.
 use Rattle.std.specs.Prelude.{List, ℕ, Result}
 use Rattle.tsc_config.specs.declared.config.Config.{Config}
-use Rattle.collector_main.specs.Configuration.{IsConfigOf, FileFails}
-use Rattle.collector_main.specs.declared.configuration.FileFault.{FileFault}
-use Rattle.collector_main.specs.declared.program.Outcome.{Outcome}
-use Rattle.collector_main.specs.declared.program.Outcome.TheVariants.{Closed, CannotClose}
+use Rattle.collector_commands.specs.Configuration.{IsConfigOf, FileFails}
+use Rattle.collector_commands.specs.declared.configuration.FileFault.{FileFault}
+use Rattle.collector_commands.specs.declared.outcome.Outcome.{Outcome}
+use Rattle.collector_commands.specs.declared.outcome.Outcome.TheVariants.{Closed, CannotClose}
 
 -- a configuration was read
 abbrev pub IsRead : Result (List ℕ) FileFault → Type 0

@@ -1,6 +1,3 @@
-pub mod Outcomes
-pub mod Configuration
-pub mod Validating
 pub mod Closing
-pub mod Showing
+pub mod Serving
 pub mod Ending

@@ -1,9 +1,8 @@
 //! Asks a running collector to close.
 ghost use Rattle.collector_main.specs.Closing.{FileCloses};
-ghost use Rattle.collector_main.specs.Configuration.{file_of};
+ghost use Rattle.collector_commands.specs.Configuration.{file_of};
 
-use crate::configuration::{FileFault, config_of};
-use crate::program::Outcome;
+use collector_commands::{FileFault, Outcome, config_of};
 use collector_serve::{port_alone, socket_path};
 use std::alloc::Global;
 use std::io;

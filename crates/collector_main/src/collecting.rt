@@ -2,15 +2,14 @@
 ghost use Rattle.std.specs.Prelude.{◌≡◌, List, ℕ, Option, true, false, IfOk, is_some};
 ghost use Rattle.tsc_script.specs.Reads.{KnownReader};
 ghost use Rattle.tsc_config.specs.Values.{InRange};
-ghost use Rattle.collector_main.specs.Configuration.{file_of};
-ghost use Rattle.collector_main.specs.Ending.{Serves, RunsTo, FilesTo, writes_file};
+ghost use Rattle.collector_commands.specs.Configuration.{file_of};
+ghost use Rattle.collector_main.specs.Serving.{Serves, RunsTo, FilesTo, writes_file};
 
-use crate::configuration::{FileFault, config_of};
 use crate::logging::{say_end, say_fault, say_no_memory, say_refused, say_start};
 use crate::opening::{charge_of, copy_of, opened, watches};
-use crate::program::{Outcome, Surroundings};
 use crate::running::serve_with;
 use collector_board::WriteWatch;
+use collector_commands::{FileFault, Outcome, Surroundings, config_of};
 use collector_serve::{Charge, EventWriter, SteadyClock};
 use output_file::{FilesPlace, OutputFile, ReopenMark, RetryingWriter};
 use pipeline::Machine;

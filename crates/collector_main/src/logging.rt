@@ -1,7 +1,6 @@
 //! What the program says of a run on standard error.
-use crate::asking::VERSION;
 use crate::changed_settings::changed_settings;
-use crate::program::Outcome;
+use collector_commands::{Outcome, VERSION};
 use collector_serve::{Charge, EventWriter};
 use drop_ledger::{Count, Report};
 use event_log::{FieldValue, Level, LogField};

@@ -6,29 +6,26 @@
 //! `tsc version` print what they say.
 #![tactic(auto)]
 
-mod asking;
 mod changed_settings;
 mod closing;
 mod collecting;
-mod configuration;
 mod logging;
 mod opening;
 mod program;
 mod running;
 mod sending;
-mod showing;
-mod validating;
 
-use crate::program::{Surroundings, program, without_memory};
+use crate::program::program;
+use collector_commands::{Surroundings, without_memory};
 use std::alloc::{Alloc, Global};
 use std::io::{ErrorKind, Stderr, Stdin};
 use std::process::ExitCode;
 use std::rt::Env;
 use std::{env, io};
-use tsc_script::Reads;
+use tsc_script::ScriptReads;
 
 fn main(rt: HostRuntime) -> ExitCode {
-    let mut input = Reads { reader: rt.stdin() };
+    let mut input = ScriptReads { reader: rt.stdin() };
     let (_, status) = match arguments(&rt) {
         Ok(arguments) => program(
             &rt,

@@ -2,12 +2,12 @@
 ghost use Rattle.std.specs.Prelude.{◌≡◌, ℕ, List, Ok, IsUtf8, IfOk, string_bytes};
 ghost use Rattle.std.specs.Arc.{arc_value};
 ghost use Rattle.tsc_config.specs.Reading.{reading};
-ghost use Rattle.collector_main.specs.Configuration.{file_of};
+ghost use Rattle.collector_commands.specs.Configuration.{file_of};
 
-use crate::configuration::FileFault;
 use crate::logging::{say_fault, say_listening, say_settings};
 use admin_http::Access;
 use collector_board::{Board, OutputStall, StopMark};
+use collector_commands::FileFault;
 use collector_serve::{
     Charge, ClosingDoor, EventWriter, History, MEMORY_ACCOUNT, close_at_end, end_admin, listen,
     start_admin, start_log_watch, start_memory_watch,

@@ -1,12 +1,12 @@
 //! The run of a collector on its listener.
 ghost use Rattle.std.specs.Prelude.{◌≡◌};
 ghost use Rattle.tsc_config.specs.Values.{InRange};
-ghost use Rattle.collector_main.specs.Ending.{RunsTo, PrintsTo};
-ghost use Rattle.collector_main.specs.Outcomes.{served_to};
+ghost use Rattle.collector_main.specs.Serving.{RunsTo, PrintsTo};
+ghost use Rattle.collector_main.specs.Serving.{served_to};
 
-use crate::program::Outcome;
 use crate::sending::send_with;
 use collector_board::StoppingSink;
+use collector_commands::Outcome;
 use collector_serve::{Charge, SteadyClock, drivers, serve_on};
 use drop_ledger::Report;
 use pipeline::{Machine, RunContext, ServeFault};

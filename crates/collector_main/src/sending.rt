@@ -3,12 +3,12 @@ ghost use Rattle.std.specs.Prelude.{◌≡◌, false, vec_len};
 ghost use Rattle.tsc_config.specs.Values.{InRange};
 ghost use Rattle.pipeline.specs.Outcome.{SinkAnswers};
 ghost use Rattle.pipeline.specs.Promise.{CoreRunTellsTo};
-ghost use Rattle.collector_main.specs.Ending.{SendsTo, ExportsTo, KeepsTo};
+ghost use Rattle.collector_main.specs.Serving.{SendsTo, ExportsTo, KeepsTo};
 
-use crate::program::Outcome;
 use crate::running::served_to;
 use batch_post::{Posts, PrintedPosts, Retry};
 use collector_board::{ExportWatch, OutputStall, StoppingSink, WatchedDestination};
+use collector_commands::Outcome;
 use collector_serve::{Charge, SteadyClock, drivers, request_fields, serve_on, with_export_room};
 use drop_ledger::Report;
 use http1::Header;

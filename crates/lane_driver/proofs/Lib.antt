@@ -1,1 +1,2 @@
 mod Sent
+mod Rows

@@ -1,5 +1,6 @@
--- Reading order: Looks (when a connection is looked at, and what a look comes to), Walks (when all of them are), Heard
--- (what is sent of what a turn answered).
+-- Reading order: Looks (when a connection is looked at, and what a look comes to), Walks (when all of them are), Taking
+-- (when one is taken, and which leaves), Heard (what is sent of what a turn answered).
 pub mod Looks
 pub mod Walks
+pub mod Taking
 pub mod Heard

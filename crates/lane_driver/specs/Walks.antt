@@ -12,6 +12,10 @@ never = 2 ^ 64 - 1
 abbrev pub met : Walk → (deadline : ℕ) → Walk
 met w deadline = record w { least = min w.least deadline }
 
+-- the next one begins no later than at this moment, also where one is under way
+abbrev pub sooner : Walk → (moment : ℕ) → Walk
+sooner w moment = record { at = w.at; least = min w.least moment; next = min w.next moment }
+
 -- the next one begins where its moment has come
 abbrev pub begun : Walk → (now : ℕ) → Walk
 begun w now = if nat_le w.next now then record { at = Some 0; least = never; next = w.next } else w

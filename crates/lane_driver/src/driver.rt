@@ -4,7 +4,7 @@ ghost use Rattle.lane_turns.specs.Driving.{FitsNext};
 ghost use Rattle.lane_driver.specs.Heard.{AllStay, Hears, MayEnd, PutsText, SendTheSame};
 
 use crate::link::{ConnectionSocket, Got, Looked, Phase, SocketStep, TurnResult};
-use crate::links::Links;
+use crate::links::{Links, leaves_by};
 use crate::loads::ConnectionShare;
 use crate::readiness::{Accepted, EVENTS, NAP, Readiness, Ready};
 use crate::walk::Walk;
@@ -19,9 +19,6 @@ use std::time::Clock;
 
 /// The most reads of a connection at a turn: a request of 100 kB is then read at one, and its memory serves the next.
 const READS: usize = 16;
-
-/// The least idle time of a connection that may be closed since too many files are open, in milliseconds (D-170).
-const GRACE: u64 = 1_000;
 
 /// The longest time that requests under way have once the mark to stop is set, in milliseconds (D-177).
 const STOP_LIMIT: u64 = 1_000;
@@ -217,7 +214,7 @@ impl<'l, P: HasStopMark> TurnDriver<'l, P> {
     {
         self.since = self.now.saturating_add(NAP);
         self.links.traffic().lacks_file();
-        self.make_room(piece, self.now.saturating_add(IDLE_LIMIT - GRACE))
+        self.make_room(piece, leaves_by(self.now))
     }
 
     /// The connection that has been idle longest, and would be idle too long by this moment, leaves, unless bytes wait

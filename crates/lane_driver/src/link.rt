@@ -1,6 +1,6 @@
 //! A connection's socket.
 ghost use Rattle.std.specs.Prelude.{◌≡◌, ◌<◌, ◌≤◌, ◌++◌, ℕ, List, [], None, is_none, true, Ok, OnOk, OnErr, IfOk, length};
-ghost use Rattle.lane_driver.specs.Looks.{before_read, deadline, is_sent, looked};
+ghost use Rattle.lane_driver.specs.Looks.{before_read, deadline, is_sent, looked, since_put, since_sent};
 
 use crate::looks::{before_read, looked};
 use crate::outgoing::{Flushed, Outgoing};
@@ -146,6 +146,7 @@ impl ConnectionSocket {
     pub fn answer(&mut self, text: &[u8], moment: u64) -> Result<(), AllocError>
         ensures put { OnOk result (self.new.outgoing ≡ self.old.outgoing ++ text.now) }
         ensures kept { OnErr result (self.new.outgoing ≡ self.old.outgoing) }
+        ensures since { self.new.since ≡ since_put self.old.outgoing self.old.since moment }
     {
         if self.outgoing.is_empty() {
             self.since = moment;
@@ -155,7 +156,7 @@ impl ConnectionSocket {
 
     /// Sends what can be sent. `false`: it failed.
     pub fn flush(&mut self, moment: u64) -> bool
-        ensures { (sent : List ℕ) × (self.old.outgoing ≡ sent ++ self.new.outgoing) }
+        ensures { (sent : List ℕ) × (self.old.outgoing ≡ sent ++ self.new.outgoing) × (self.new.since ≡ since_sent sent self.old.since moment) }
     {
         let Flushed { took, failed } = self.outgoing.flush(&mut self.stream);
         if took {

@@ -1,12 +1,14 @@
 //! The sockets of a lane's connections.
 ghost use Rattle.std.specs.Prelude.{◌≡◌, ◌≢◌, ◌≤◌, ◌<◌, ◌+◌, ℕ, [], None, Some, IfErr, IfNone, IfOk, IfSome, IsFalse};
 ghost use Rattle.slab.specs.Slab.{slab_len};
+ghost use Rattle.lane_driver.specs.Taking.{leaves_by, taken_from};
 ghost use Rattle.lane_driver.specs.Heard.{AllStay, MayEnd, PutsText, SendTheSame, unsent};
 
 use crate::link::{ConnectionSocket, Phase, SocketStep, TurnResult};
 use crate::loads::Loads;
 use crate::readiness::NAP;
 use crate::traffic::Traffic;
+use http_lane::IDLE_LIMIT;
 use slab::Slab;
 use std::alloc::Global;
 use std::collections::VecDeque;
@@ -18,6 +20,9 @@ const PATIENCE: u64 = 8;
 
 /// The longest time for which it does so, in milliseconds.
 const MOST_PATIENCE: u64 = 32;
+
+/// The least idle time of a connection that may be closed since too many files are open, in milliseconds (D-170).
+const GRACE: u64 = 1_000;
 
 /// The sockets of the connections that are served, and of those whose last answer is under way, each at its place.
 #[derive(Drop)]
@@ -81,10 +86,7 @@ impl Links {
             return since.saturating_add(NAP);
         }
         // Looked at anew each time: where other lanes' connections have left this one waits the longer (D-170).
-        let least = self.loads.least();
-        let fewest = least.saturating_add(least / 8);
-        let more = (self.slab.len() as u64).saturating_sub(fewest);
-        since.saturating_add(more.saturating_mul(PATIENCE).min(MOST_PATIENCE))
+        taken_from(self.slab.len() as u64, self.loads.least(), since)
     }
 
     /// Whether more are open than may be.
@@ -209,4 +211,22 @@ impl Links {
         }
         found
     }
+}
+
+/// From when on a lane with this number of connections takes one that may wait since a moment, where the lane that has
+/// the fewest has `least`.
+fn taken_from(own: u64, least: u64, since: u64) -> u64
+    ensures { result ≡ taken_from own least since }
+{
+    let fewest = least.saturating_add(least / 8);
+    let more = own.saturating_sub(fewest);
+    since.saturating_add(more.saturating_mul(PATIENCE).min(MOST_PATIENCE))
+}
+
+/// Where too many files are open, at this moment, a connection leaves that would be idle too long by the one that is
+/// answered.
+pub fn leaves_by(now: u64) -> u64
+    ensures { result ≡ leaves_by now }
+{
+    now.saturating_add(IDLE_LIMIT - GRACE)
 }

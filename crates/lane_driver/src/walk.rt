@@ -1,6 +1,6 @@
 //! Walks over all connections, for those whose time is over.
 ghost use Rattle.std.specs.Prelude.{◌≡◌, ◌≤◌, Some, None};
-ghost use Rattle.lane_driver.specs.Walks.{begun, ended, met, never};
+ghost use Rattle.lane_driver.specs.Walks.{begun, ended, met, never, sooner};
 
 /// The least time between two walks, in milliseconds.
 const PAUSE: u64 = 100;
@@ -32,6 +32,7 @@ impl Walk {
     pub fn comes_by(&mut self, moment: u64)
         ensures next { self.new.next ≤ moment }
         ensures behind { self.new.least ≤ moment }
+        ensures walk { self.new ≡ sooner self.old moment }
     {
         self.next = self.next.min(moment);
         self.least = self.least.min(moment);

@@ -9,7 +9,7 @@ use span_sink::{Sink, SinkFault};
 use std::alloc::{AllocError, Global};
 use std::test::Fail;
 use tsc_config::{Config, read};
-use tsc_script::Reads;
+use tsc_script::ScriptReads;
 
 /// Traces with an error are kept, ten seconds after their first span.
 const ERRORS: &str =
@@ -105,7 +105,7 @@ fn told(answer: &Result<Report, ReplayFault>) -> (bool, Option<[u64; 9]>) {
 fn replayed(alloc: Global, piece: usize, room: usize) -> Result<ReplayEnd, Fail> {
     let sink = SmallSink::new(alloc, piece, room)?;
     let config = configured(alloc)?;
-    let mut reader = Reads {
+    let mut reader = ScriptReads {
         reader: SCRIPT.as_bytes(),
     };
     let (sink, answer) = replay_run(alloc, config, &mut reader, sink);

@@ -26,14 +26,14 @@ use span_sink::{LineSink, Sink};
 use std::alloc::{AllocError, Global};
 use trace_hash::TraceHashing;
 use tsc_config::Config;
-use tsc_script::{Source, play_script};
+use tsc_script::{ScriptSource, play_script};
 
 /// Runs a script, and gives the sink back. A connection is served by the lane of its number modulo the number of lanes.
 ///
 /// A reply line and the lines of batches go to the sink, line by line as the script goes on. At most 2^32 reads are
 /// made, and a script ends before its end only for a cause in what they gave. Where the type of the reader or of the
 /// sink doesn't tell its bytes (`given`, `taken`), nothing is claimed of them.
-pub fn replay_run<R: Source, S: Sink>(
+pub fn replay_run<R: ScriptSource, S: Sink>(
     alloc: Global,
     config: Config,
     reader: &mut R,
@@ -140,7 +140,7 @@ fn new_queues(
 }
 
 /// Plays a script on a session that has seen no line.
-fn run_session<R: Source, S: Sink>(
+fn run_session<R: ScriptSource, S: Sink>(
     alloc: Global,
     reader: &mut R,
     session: Session<S>,

@@ -27,7 +27,7 @@ use span_ids::Moment;
 use span_sink::Sink;
 use std::alloc::Global;
 use std::mem;
-use tsc_script::{Machine, ScriptCommand, ScriptStop};
+use tsc_script::{ScriptCommand, ScriptPlayer, ScriptStop};
 
 /// The connections, the shards and the exporter, between two lines of a script: the queues are empty, all that was due
 /// is decided, and all that was released has gone to the sink.
@@ -166,7 +166,7 @@ impl<S: Sink> Session<S> {
     }
 }
 
-impl<S: Sink> Machine for Session<S> {
+impl<S: Sink> ScriptPlayer for Session<S> {
     ghost leads = { λ start instructions now. (now.output.0.size ≡ start.output.0.size) × (now.queue_capacity ≡ start.queue_capacity)
         × (now.keeps_doubles ≡ start.keeps_doubles)
         × ((s : Settings) (w : ScriptWorld) → AreOf s w start.connections start.shards.items start.limiter start.output start.closed

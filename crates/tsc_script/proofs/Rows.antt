@@ -3,7 +3,7 @@
 use Rattle.std.specs.Prelude.{◌≡◌, [], ◌∷◌, refl, codes}
 use Rattle.tsc_script.specs.declared.limits.TheConstants.{MAX_LINE_BYTES, MAX_READS}
 use Rattle.tsc_script.specs.declared.buffer.TheConstants.{CHUNK}
-use Rattle.tsc_script.specs.declared.reads.ReadTurn.TheVariants.{Gave, Failed}
+use Rattle.tsc_script.specs.declared.reads.ScriptRead.TheVariants.{Gave, Failed}
 use Rattle.tsc_script.specs.Reads.{gave, interrupted, failed, ended, turn_of, bytes_given}
 use Rattle.tsc_script.specs.Causes.{line_feeds}
 

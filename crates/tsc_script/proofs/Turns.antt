@@ -3,8 +3,8 @@
 use Rattle.std.proofs.Common.{◌≡◌, ℕ, ◌+◌, ◌<◌, ◌≤◌, List, [], ◌∷◌, ◌++◌, None, Some, Option, length, length-append, length-take, refl, sym, ap, ◌∙◌, subst, append-nil, append_assoc, arith, inl, inr}
 use Rattle.std.proofs.KnownBytes.{Consumes-trans, Consumes-nil}
 use Rattle.std.specs.Io.KnownBytes.{Consumes}
-use Rattle.tsc_script.specs.declared.reads.ReadTurn.{ReadTurn}
-use Rattle.tsc_script.specs.declared.reads.ReadTurn.TheVariants.{Gave, Interrupted, Failed, Ended}
+use Rattle.tsc_script.specs.declared.reads.ScriptRead.{ScriptRead}
+use Rattle.tsc_script.specs.declared.reads.ScriptRead.TheVariants.{Gave, Interrupted, Failed, Ended}
 use Rattle.tsc_script.specs.Reads.{SourceTurn, gave, interrupted, failed, ended, turn_of, bytes_by, bytes_given, KnownReader, Tells, Gives, GoOn, LastGave, IsCutShort}
 use Rattle.tsc_script.specs.ToRead.{CountsReads, Spends}
 
@@ -69,7 +69,7 @@ Counts-more a b xs turn p few h =
     Counts-then a b (b + 1) xs (turn ∷ []) p one
 
 -- a read gives no more than its chunk has room for
-pub turn-short : (turn : ReadTurn) (chunk : List ℕ) → length chunk ≤ 65536 → length (bytes_by (turn_of turn chunk)) ≤ 65536
+pub turn-short : (turn : ScriptRead) (chunk : List ℕ) → length chunk ≤ 65536 → length (bytes_by (turn_of turn chunk)) ≤ 65536
 turn-short (Gave n) chunk h = omega (arith, h, length-take n chunk)
 turn-short Interrupted chunk h = omega arith
 turn-short Failed chunk h = omega arith

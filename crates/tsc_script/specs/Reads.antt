@@ -1,8 +1,8 @@
 -- What the reads of a script gave, and how they ended.
 use Rattle.std.specs.Prelude.{◌≡◌, ◌⊎◌, ℕ, ◌<◌, ◌≤◌, List, [], ◌∷◌, ◌++◌, length, take, flat_map, Option, None, Some}
 use Rattle.std.specs.Io.KnownBytes.{Consumes}
-use Rattle.tsc_script.specs.declared.reads.ReadTurn.{ReadTurn}
-use Rattle.tsc_script.specs.declared.reads.ReadTurn.TheVariants.{Gave, Interrupted, Failed, Ended}
+use Rattle.tsc_script.specs.declared.reads.ScriptRead.{ScriptRead}
+use Rattle.tsc_script.specs.declared.reads.ScriptRead.TheVariants.{Gave, Interrupted, Failed, Ended}
 
 -- what one read gave: some bytes, an interruption, a fault, or the end
 pub data SourceTurn : Type 0 where
@@ -10,14 +10,14 @@ pub data SourceTurn : Type 0 where
   interrupted failed ended : SourceTurn
 
 -- what a read of a source gave
-abbrev pub turn_of : ReadTurn → List ℕ → SourceTurn
+abbrev pub turn_of : ScriptRead → List ℕ → SourceTurn
 turn_of (Gave n) chunk = gave (take n chunk)
 turn_of Interrupted chunk = interrupted
 turn_of Failed chunk = failed
 turn_of Ended chunk = ended
 
 -- one byte or more was given, and no more than there is room for
-abbrev pub FitsChunk : ReadTurn → ℕ → Type 0
+abbrev pub FitsChunk : ScriptRead → ℕ → Type 0
 FitsChunk (Gave n) room = (0 < n) × (n ≤ room)
 FitsChunk _ room = Unit {0}
 

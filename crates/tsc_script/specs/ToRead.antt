@@ -5,7 +5,7 @@ use Rattle.tsc_script.specs.declared.buffer.Refill.{Refill}
 use Rattle.tsc_script.specs.declared.buffer.Refill.TheVariants as refill_is
 use Rattle.tsc_script.specs.declared.lines.LineEnd.{LineEnd}
 use Rattle.tsc_script.specs.declared.lines.LineEnd.TheVariants as line_is
-use Rattle.tsc_script.specs.declared.reads.ReadTurn.{ReadTurn}
+use Rattle.tsc_script.specs.declared.reads.ScriptRead.{ScriptRead}
 use Rattle.tsc_script.specs.declared.stop.ScriptStop.{ScriptStop}
 use Rattle.tsc_script.specs.declared.stop.ScriptStop.TheVariants.{NoMemory, Refused, Fault, Down}
 use Rattle.tsc_script.specs.Lines.{HasNoLineFeed}
@@ -27,7 +27,7 @@ abbrev pub Spends : (reads : ℕ) → List SourceTurn → Type 0
 Spends reads turns = LastGave failed turns ⊎ (GoOn turns × (reads ≡ 4294967296))
 
 -- interruptions, and then what was found; or there was no further read
-abbrev pub Finds : Option ReadTurn → (chunk : List ℕ) → (reads : ℕ) → List SourceTurn → Type 0
+abbrev pub Finds : Option ScriptRead → (chunk : List ℕ) → (reads : ℕ) → List SourceTurn → Type 0
 Finds None chunk reads turns = GoOn turns × (bytes_given turns ≡ []) × (reads ≡ 4294967296)
 Finds (Some turn) chunk reads turns =
     (before : List SourceTurn) × GoOn before × (bytes_given before ≡ []) × (turns ≡ before ++ turn_of turn chunk ∷ [])

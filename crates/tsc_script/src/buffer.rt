@@ -7,7 +7,7 @@ ghost use Rattle.tsc_script.specs.Reads.{SourceTurn, bytes_given, FitsChunk, Giv
 ghost use Rattle.tsc_script.specs.ToRead.{BufferState, CountsReads, Finds, Refills};
 
 use crate::limits::MAX_READS;
-use crate::reads::{ReadTurn, Source};
+use crate::reads::{ScriptRead, ScriptSource};
 use std::alloc::{AllocError, Allocator};
 use std::marker::Model;
 
@@ -76,7 +76,7 @@ impl<A: Allocator> ReadBuffer<A> {
     }
 
     /// Reads more bytes into the empty buffer.
-    pub(crate) fn refill<R: Source>(&mut self, reader: &mut R) -> Refill
+    pub(crate) fn refill<R: ScriptSource>(&mut self, reader: &mut R) -> Refill
         requires { self.old.bytes ≡ [] }
         ensures turns { (turns : List SourceTurn) × Gives (R.given reader.old) (R.given reader.new) turns
             × CountsReads self.old.reads self.new.reads turns × (self.new.bytes ≡ bytes_given turns)
@@ -89,33 +89,37 @@ impl<A: Allocator> ReadBuffer<A> {
         self.at = 0;
         self.filled = 0;
         match read_some(reader, &mut self.chunk, &mut self.reads) {
-            Some(ReadTurn::Gave(count)) => {
+            Some(ScriptRead::Gave(count)) => {
                 self.filled = count;
                 Refill::More
             }
-            Some(ReadTurn::Ended) => Refill::End,
-            Some(ReadTurn::Failed | ReadTurn::Interrupted) | None => Refill::Fault,
+            Some(ScriptRead::Ended) => Refill::End,
+            Some(ScriptRead::Failed | ScriptRead::Interrupted) | None => Refill::Fault,
         }
     }
 }
 
 /// Reads once more, and again after each interruption; `None`: all reads that may be made, 2^32, were made.
-fn read_some<R: Source>(reader: &mut R, chunk: &mut [u8], reads: &mut u64) -> Option<ReadTurn>
+fn read_some<R: ScriptSource>(
+    reader: &mut R,
+    chunk: &mut [u8],
+    reads: &mut u64,
+) -> Option<ScriptRead>
     requires room { 0 < length chunk.old }
     requires short { length chunk.old ≤ CHUNK }
     requires reads { reads.old ≤ MAX_READS }
     ensures turns { (turns : List SourceTurn) × Gives (R.given reader.old) (R.given reader.new) turns
         × CountsReads reads.old reads.new turns × Finds result chunk.new reads.new turns }
     ensures fits { IfSome result (λ turn. FitsChunk turn (length chunk.new)) }
-    ensures end { IfSome result (λ turn. turn ≡ ReadTurn.Ended → IsAtEnd (R.given reader.new).left) }
-    ensures tried_again { IfSome result (λ turn. turn ≢ ReadTurn.Interrupted) }
+    ensures end { IfSome result (λ turn. turn ≡ ScriptRead.Ended → IsAtEnd (R.given reader.new).left) }
+    ensures tried_again { IfSome result (λ turn. turn ≢ ScriptRead.Interrupted) }
     ensures reads { reads.new ≤ MAX_READS }
     ensures more { IfSome result (λ _. reads.old < reads.new) }
 {
     while *reads < MAX_READS {
         *reads += 1;
         match reader.turn(chunk) {
-            ReadTurn::Interrupted => {}
+            ScriptRead::Interrupted => {}
             turn => return Some(turn),
         }
     }

@@ -24,14 +24,14 @@ mod grammar;
 mod laws;
 mod limits;
 mod lines;
-mod machine;
 mod play;
+mod player;
 mod reads;
 mod stop;
 
 pub use command::ScriptCommand;
 pub use laws::lines_are_their_words;
-pub use machine::Machine;
 pub use play::play_script;
-pub use reads::{ReadTurn, Reads, Source};
+pub use player::ScriptPlayer;
+pub use reads::{ScriptRead, ScriptReads, ScriptSource};
 pub use stop::ScriptStop;

@@ -7,7 +7,7 @@ ghost use Rattle.tsc_script.specs.Lines.{HasNoLineFeed};
 
 use crate::buffer::{ReadBuffer, Refill};
 use crate::limits::MAX_LINE_BYTES;
-use crate::reads::Source;
+use crate::reads::ScriptSource;
 use memchr::memchr;
 use std::alloc::Allocator;
 
@@ -25,7 +25,7 @@ pub(crate) enum LineEnd {
 }
 
 /// Reads the next line into a vector with room for it. Where the line is too long, its first part is used up.
-pub(crate) fn read_line<R: Source, A: Allocator, B: Allocator>(
+pub(crate) fn read_line<R: ScriptSource, A: Allocator, B: Allocator>(
     reader: &mut R,
     buffer: &mut ReadBuffer<A>,
     line: &mut Vec<u8, B>,

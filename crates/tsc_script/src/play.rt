@@ -16,15 +16,15 @@ use crate::command::ScriptCommand;
 use crate::grammar::parse;
 use crate::limits::MAX_LINE_BYTES;
 use crate::lines::{LineEnd, read_line};
-use crate::machine::Machine;
-use crate::reads::Source;
+use crate::player::ScriptPlayer;
+use crate::reads::ScriptSource;
 use crate::stop::ScriptStop;
 use std::alloc::{Allocator, Global};
 
 /// Plays a script, line by line. The memory for a line (4,194,368 bytes) and for a read (65,536 bytes) is taken at the
 /// start, before anything is read or played. Once the machine takes no further instruction, no further line is read,
 /// and `close` is played. The reader may have given bytes behind the last line that was used.
-pub fn play_script<R: Source, M: Machine>(
+pub fn play_script<R: ScriptSource, M: ScriptPlayer>(
     alloc: Global,
     reader: &mut R,
     machine: &mut M,
@@ -90,7 +90,7 @@ pub fn play_script<R: Source, M: Machine>(
 }
 
 /// Plays the text behind the last line feed, and closes.
-fn play_last<M: Machine>(machine: &mut M, line: &[u8], number: u64) -> Result<(), ScriptStop>
+fn play_last<M: ScriptPlayer>(machine: &mut M, line: &[u8], number: u64) -> Result<(), ScriptStop>
     requires short { length line.now ≤ MAX_LINE_BYTES }
     requires plain { HasNoLineFeed line.now }
     requires open { M.is_closed machine.old ≡ false }
@@ -125,7 +125,7 @@ fn play_last<M: Machine>(machine: &mut M, line: &[u8], number: u64) -> Result<()
 }
 
 /// Closes the machine.
-fn finish<M: Machine>(machine: &mut M) -> Result<(), ScriptStop>
+fn finish<M: ScriptPlayer>(machine: &mut M) -> Result<(), ScriptStop>
     requires open { M.is_closed machine.old ≡ false }
     ensures played { (start : M) (done : List Instruction) → M.leads start done machine.old
         → M.leads start (done ++ close ∷ []) machine.new }
@@ -141,7 +141,7 @@ fn finish<M: Machine>(machine: &mut M) -> Result<(), ScriptStop>
 }
 
 /// Reads on after the line before this one, behind which nothing may stand.
-fn expect_end<R: Source, A: Allocator, B: Allocator>(
+fn expect_end<R: ScriptSource, A: Allocator, B: Allocator>(
     reader: &mut R,
     buffer: &mut ReadBuffer<A>,
     line: &mut Vec<u8, B>,

@@ -1,6 +1,7 @@
 use Rattle.std.proofs.Common.{refl}
-use Rattle.collector_main.specs.Configuration.{file_of}
-use Rattle.collector_main.specs.Ending.{Course, prints, writes_file}
+use Rattle.collector_commands.specs.Configuration.{file_of}
+use Rattle.collector_commands.specs.Courses.{Course}
+use Rattle.collector_main.specs.Serving.{prints, writes_file}
 use Rattle.collector_main.proofs.Serving.{Serves-starved, Serves-to}
 use Rattle.collector_main.proofs.collecting.serve_by.Goals as goal
 

@@ -1,5 +1,5 @@
 use Rattle.std.proofs.Common.{List, ℕ, Option, refl, sym, ap, subst}
-use Rattle.collector_main.specs.Ending.{RunsTo}
+use Rattle.collector_main.specs.Serving.{RunsTo}
 use Rattle.collector_main.proofs.collecting.serve_to.Goals as goal
 
 pub returns-in-Some-clause-filed : goal.returns-in-Some-clause-filed

@@ -1,10 +1,10 @@
 use Rattle.std.proofs.Common.{map, refl, subst}
 use Rattle.std.specs.Prelude.{Err, string_bytes}
-use Rattle.collector_main.specs.Configuration.{file_of}
-use Rattle.collector_main.specs.Ending.{AsksFor}
-use Rattle.collector_main.specs.declared.configuration.FileFault.TheVariants.{Unreadable}
-use Rattle.collector_main.specs.declared.configuration.ReadFault.TheVariants.{Other}
-use Rattle.collector_main.specs.declared.program.Command.TheVariants.{Replay, Serve, Validate, Close, Show, Help, Version}
+use Rattle.collector_commands.specs.Configuration.{file_of}
+use Rattle.collector_commands.specs.Courses.{AsksFor}
+use Rattle.collector_commands.specs.declared.configuration.FileFault.TheVariants.{Unreadable}
+use Rattle.collector_commands.specs.declared.configuration.ReadFault.TheVariants.{Other}
+use Rattle.collector_commands.specs.declared.asking.Command.TheVariants.{Replay, Serve, Validate, Close, Show, Help, Version}
 use Rattle.collector_main.proofs.Courses.{CameTo-does}
 use Rattle.collector_main.proofs.program.run.Goals as goal
 
@@ -21,7 +21,7 @@ pub returns-in-Serve : goal.returns-in-Serve
 returns-in-Serve g c =
     let arguments = map string_bytes c.args.arguments.now in
     let asked = subst (λ command. AsksFor arguments command) c.in-Serve.is c.in-Some.ensures.some in
-    (file_of (λ v. v.items) c.read_file-in-Serve.result, CameTo-does _ _ Serve c.serve_by.result.1 asked (c.serve_by.ensures arguments (g.Script.Source.given c.args.reader.now)))
+    (file_of (λ v. v.items) c.read_file-in-Serve.result, CameTo-does _ _ Serve c.serve_by.result.1 asked (c.serve_by.ensures arguments (g.Script.ScriptSource.given c.args.reader.now)))
 
 pub returns-in-Validate : goal.returns-in-Validate
 returns-in-Validate g c =

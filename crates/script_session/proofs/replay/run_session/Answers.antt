@@ -28,8 +28,8 @@ returns g c = λ config can unused new limiter.
       failures = session.output.0.sink.failures;
       taken_after = g.S.Sink.taken c.end.result.0;
       failures_after = g.S.Sink.failures c.end.result.0;
-      unread = g.R.Source.given c.args.reader.now;
-      unread_after = g.R.Source.given c.play_script-played.new.reader;
+      unread = g.R.ScriptSource.given c.args.reader.now;
+      unread_after = g.R.ScriptSource.given c.play_script-played.new.reader;
     } in
     let first : LineSinkState = up_state session.output.0.sink.taken session.output.0.sink.failures in
     let start = new_world config.lanes config.shards first in
@@ -45,7 +45,7 @@ returns g c = λ config can unused new limiter.
     } in
     run-ends run c.play_script-played.result (not now.output.0.sink.is_down) now.closed now.output.0.sink now.output.1 _ _ script.whole script.stopped script.refused script.caused script.up script.closed script.down_closed
     (λ e. let same = (script.no_memory e).0 in
-    (c.end.ensures.taken ∙ ap (λ (m : Session g.row.S.Denot g.S.Sink). m.output.0.sink.taken) same, c.end.ensures.failures ∙ ap (λ (m : Session g.row.S.Denot g.S.Sink). m.output.0.sink.failures) same, ap g.R.Source.given (script.no_memory e).1))
+    (c.end.ensures.taken ∙ ap (λ (m : Session g.row.S.Denot g.S.Sink). m.output.0.sink.taken) same, c.end.ensures.failures ∙ ap (λ (m : Session g.row.S.Denot g.S.Sink). m.output.0.sink.failures) same, ap g.R.ScriptSource.given (script.no_memory e).1))
     (is_up_state now.output.0.sink run.taken_after run.failures_after c.end.ensures.taken c.end.ensures.failures)
     (is_down_state now.output.0.sink run.taken_after run.failures_after c.end.ensures.taken c.end.ensures.failures)
     (λ done leads. let r = leads.3 s start starts in leads_to s run.sizes run.lanes run.shards first done now.output.0.sink now.output.1 can refl r.0 r.1 (sym r.2.sink_is) r.2.reports now.closed (sym r.2.closed_is))

@@ -7,7 +7,7 @@ use Rattle.tsc_script.specs.declared.limits.TheConstants.{MAX_READS}
 -- each read was interrupted
 abbrev pub invariant-loop-reads : goal.invariant-loop-reads
 invariant-loop-reads g l =
-    (turns : List SourceTurn) × Gives (g.R.Source.given l.fn.reader) (g.R.Source.given l.reader) turns × CountsReads l.fn.reads l.reads turns
+    (turns : List SourceTurn) × Gives (g.R.ScriptSource.given l.fn.reader) (g.R.ScriptSource.given l.reader) turns × CountsReads l.fn.reads l.reads turns
     × GoOn turns × (bytes_given turns ≡ []) × (l.reads ≤ MAX_READS)
 
 abbrev pub decreases-loop-reads : goal.decreases-loop-reads

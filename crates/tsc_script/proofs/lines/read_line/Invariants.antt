@@ -8,7 +8,7 @@ use Rattle.tsc_script.specs.declared.limits.TheConstants.{MAX_LINE_BYTES, MAX_RE
 -- of the bytes that the buffer had and the reads gave, the line has the first, and the buffer the others
 abbrev pub invariant-line : goal.invariant-line
 invariant-line g l = record {
-  turns : (turns : List SourceTurn) × Gives (g.R.Source.given l.fn.reader) (g.R.Source.given l.reader) turns × CountsReads l.fn.buffer.reads l.buffer.reads turns
+  turns : (turns : List SourceTurn) × Gives (g.R.ScriptSource.given l.fn.reader) (g.R.ScriptSource.given l.reader) turns × CountsReads l.fn.buffer.reads l.buffer.reads turns
       × GoOn turns × (l.fn.buffer.bytes ++ bytes_given turns ≡ l.line.items ++ l.buffer.bytes);
   plain : HasNoLineFeed l.line.items;
   short : vec_len l.line ≤ MAX_LINE_BYTES;

@@ -33,9 +33,9 @@ returns-in-Input-clause-whole g c =
     let f = follows_on so_far.0 more.0 _ c.read_line.new.line.items c.loop-number.number so_far.4 so_far.5 more.3.1 in
     let done : List Instruction = so_far.4 in
     let F = λ (line : List ℕ). Follows (bytes_given (so_far.0 ++ more.0)) line c.loop-number.number done in
-    input-whole _ _ (bytes_given (so_far.0 ++ more.0)) gives.bytes (λ xs. g.M.Machine.leads c.args.machine.now xs c.play_last.new.machine) c.play_last.result c.loop-number.number done c.deref.result.now
+    input-whole _ _ (bytes_given (so_far.0 ++ more.0)) gives.bytes (λ xs. g.M.ScriptPlayer.leads c.args.machine.now xs c.play_last.new.machine) c.play_last.result c.loop-number.number done c.deref.result.now
     (subst F (sym c.deref.ensures.value) f) (c.in-Input.ensures.end refl)
-    (played_last g.M.Machine.leads c.args.machine.now c.play_last.result c.loop-number.machine c.play_last.new.machine c.loop-number.number _ c.deref.result.now so_far.6 c.play_last.ensures.whole)
+    (played_last g.M.ScriptPlayer.leads c.args.machine.now c.play_last.result c.loop-number.machine c.play_last.new.machine c.loop-number.number _ c.deref.result.now so_far.6 c.play_last.ensures.whole)
 
 pub returns-in-Input-clause-refused : goal.returns-in-Input-clause-refused
 returns-in-Input-clause-refused g c =
@@ -56,10 +56,10 @@ returns-in-Input-clause-stopped g c =
     let f = follows_on so_far.0 more.0 _ c.read_line.new.line.items c.loop-number.number so_far.4 so_far.5 more.3.1 in
     let done : List Instruction = so_far.4 in
     let F = λ (line : List ℕ). Follows (bytes_given (so_far.0 ++ more.0)) line c.loop-number.number done in
-    input-stopped _ _ (bytes_given (so_far.0 ++ more.0)) gives.bytes (λ xs. g.M.Machine.leads c.args.machine.now xs c.play_last.new.machine) _ (c.play_last.new.machine ≡ c.loop-number.machine) c.play_last.result c.loop-number.number done c.deref.result.now
+    input-stopped _ _ (bytes_given (so_far.0 ++ more.0)) gives.bytes (λ xs. g.M.ScriptPlayer.leads c.args.machine.now xs c.play_last.new.machine) _ (c.play_last.new.machine ≡ c.loop-number.machine) c.play_last.result c.loop-number.number done c.deref.result.now
     (subst F (sym c.deref.ensures.value) f) (c.in-Input.ensures.end refl)
     (λ e. rw e so_far.6) c.play_last.ensures.refused
-    (IfErr-played_last g.M.Machine.leads c.args.machine.now c.play_last.result c.loop-number.machine c.play_last.new.machine c.loop-number.number _ c.deref.result.now so_far.6 c.play_last.ensures.stopped)
+    (IfErr-played_last g.M.ScriptPlayer.leads c.args.machine.now c.play_last.result c.loop-number.machine c.play_last.new.machine c.loop-number.number _ c.deref.result.now so_far.6 c.play_last.ensures.stopped)
 
 pub returns-in-Input-clause-caused : goal.returns-in-Input-clause-caused
 returns-in-Input-clause-caused g c =
@@ -81,7 +81,7 @@ returns-in-TooLong-clause-stopped g c =
     let so_far = c.loop-number.invariant.turns in
     let more = c.in-TooLong.ensures.turns in
     let gives = Gives-then _ _ _ so_far.0 more.0 so_far.1 more.1 in
-    stops_at _ _ (bytes_given (so_far.0 ++ more.0)) gives.bytes (λ xs. g.M.Machine.leads c.args.machine.now xs c.loop-number.machine) _ c.loop-number.number so_far.4
+    stops_at _ _ (bytes_given (so_far.0 ++ more.0)) gives.bytes (λ xs. g.M.ScriptPlayer.leads c.args.machine.now xs c.loop-number.machine) _ c.loop-number.number so_far.4
     (follows_on so_far.0 more.0 _ _ c.loop-number.number so_far.4 so_far.5 more.3.4) so_far.6
 
 pub returns-in-TooLong-clause-refused : goal.returns-in-TooLong-clause-refused
@@ -110,7 +110,7 @@ returns-in-Fault-clause-stopped g c =
     let so_far = c.loop-number.invariant.turns in
     let more = c.in-Fault.ensures.turns in
     let gives = Gives-then _ _ _ so_far.0 more.0 so_far.1 more.1 in
-    stops_at _ _ (bytes_given (so_far.0 ++ more.0)) gives.bytes (λ xs. g.M.Machine.leads c.args.machine.now xs c.loop-number.machine) _ c.loop-number.number so_far.4
+    stops_at _ _ (bytes_given (so_far.0 ++ more.0)) gives.bytes (λ xs. g.M.ScriptPlayer.leads c.args.machine.now xs c.loop-number.machine) _ c.loop-number.number so_far.4
     (follows_on so_far.0 more.0 _ _ c.loop-number.number so_far.4 so_far.5 more.3.1) so_far.6
 
 pub returns-in-Fault-clause-caused : goal.returns-in-Fault-clause-caused
@@ -132,7 +132,7 @@ returns-in_default-parse-clause-stopped g c =
     let so_far = c.loop-number.invariant.turns in
     let more = c.in-LineFeed.ensures.turns in
     let gives = Gives-then _ _ _ so_far.0 more.0 so_far.1 more.1 in
-    stops_at _ _ (bytes_given (so_far.0 ++ more.0)) gives.bytes (λ xs. g.M.Machine.leads c.args.machine.now xs c.loop-number.machine) _ c.loop-number.number so_far.4
+    stops_at _ _ (bytes_given (so_far.0 ++ more.0)) gives.bytes (λ xs. g.M.ScriptPlayer.leads c.args.machine.now xs c.loop-number.machine) _ c.loop-number.number so_far.4
     (follows_on so_far.0 more.0 _ _ c.loop-number.number so_far.4 so_far.5 more.3.1) so_far.6
 
 pub returns-in_default-parse-clause-refused : goal.returns-in_default-parse-clause-refused
@@ -190,7 +190,7 @@ returns-in-Close-clause-whole g c =
     let gives = Gives-then _ _ _ (so_far.0 ++ more.0) behind.0 (Gives-then _ _ _ so_far.0 more.0 so_far.1 more.1) behind.1 in
     let f = follows_close (so_far.0 ++ more.0) behind.0 c.read_line.new.line.items c.read_line.new.buffer.bytes c.loop-number.number so_far.4
     (follows_on so_far.0 more.0 _ _ c.loop-number.number so_far.4 so_far.5 more.3.1) in
-    close-whole _ _ (bytes_given all) gives.bytes (λ xs. g.M.Machine.leads c.args.machine.now xs c.play.new.self) c.expect_end.result c.read_line.new.line.items _ c.loop-number.number _ so_far.4 behind.0
+    close-whole _ _ (bytes_given all) gives.bytes (λ xs. g.M.ScriptPlayer.leads c.args.machine.now xs c.play.new.self) c.expect_end.result c.read_line.new.line.items _ c.loop-number.number _ so_far.4 behind.0
     f c.in-LineFeed.ensures.plain.0
     (rw (← c.deref-in-loop-number.ensures.value) (sym c.in-Some.ensures ∙ ap (λ x. Some (instruction_of_command x)) c.in-Close.is))
     (rw c.in-Close.is at (c.play.ensures.played _ _ so_far.6)) behind.3 c.expect_end.ensures.end
@@ -204,7 +204,7 @@ returns-in-Close-clause-stopped g c =
     let gives = Gives-then _ _ _ (so_far.0 ++ more.0) behind.0 (Gives-then _ _ _ so_far.0 more.0 so_far.1 more.1) behind.1 in
     let f = follows_close (so_far.0 ++ more.0) behind.0 c.read_line.new.line.items c.read_line.new.buffer.bytes c.loop-number.number so_far.4
     (follows_on so_far.0 more.0 _ _ c.loop-number.number so_far.4 so_far.5 more.3.1) in
-    closed-stopped _ _ (bytes_given all) gives.bytes (λ xs. g.M.Machine.leads c.args.machine.now xs c.play.new.self) _ c.expect_end.result c.read_line.new.line.items _ c.loop-number.number _ so_far.4 behind.0
+    closed-stopped _ _ (bytes_given all) gives.bytes (λ xs. g.M.ScriptPlayer.leads c.args.machine.now xs c.play.new.self) _ c.expect_end.result c.read_line.new.line.items _ c.loop-number.number _ so_far.4 behind.0
     f c.in-LineFeed.ensures.plain.0
     (rw (← c.deref-in-loop-number.ensures.value) (sym c.in-Some.ensures ∙ ap (λ x. Some (instruction_of_command x)) c.in-Close.is))
     (rw c.in-Close.is at (c.play.ensures.played _ _ so_far.6)) behind.3

@@ -10,8 +10,8 @@ use Rattle.tsc_script.proofs.play.play_script.Given as goal
 abbrev pub invariant-loop-number : goal.invariant-loop-number
 invariant-loop-number g l = record {
   room : MAX_LINE_BYTES ≤ vec_capacity l.line;
-  turns : (turns : List SourceTurn) × Gives (g.R.Source.given l.fn.reader) (g.R.Source.given l.reader) turns × CountsReads 0 l.buffer.reads turns × GoOn turns
-      × (done : List Instruction) × Follows (bytes_given turns) l.buffer.bytes l.number done × g.M.Machine.leads l.fn.machine done l.machine;
-  still_open : g.M.Machine.is_closed l.machine ≡ false;
-  still_up : g.M.Machine.is_up l.machine ≡ true;
+  turns : (turns : List SourceTurn) × Gives (g.R.ScriptSource.given l.fn.reader) (g.R.ScriptSource.given l.reader) turns × CountsReads 0 l.buffer.reads turns × GoOn turns
+      × (done : List Instruction) × Follows (bytes_given turns) l.buffer.bytes l.number done × g.M.ScriptPlayer.leads l.fn.machine done l.machine;
+  still_open : g.M.ScriptPlayer.is_closed l.machine ≡ false;
+  still_up : g.M.ScriptPlayer.is_up l.machine ≡ true;
 }

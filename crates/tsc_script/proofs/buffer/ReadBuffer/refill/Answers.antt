@@ -1,6 +1,6 @@
 use Rattle.std.proofs.Common.{◌≡◌, ℕ, ◌-◌, List, ◌++◌, ◌∷◌, [], take, length, ap, sym, subst, ◌∙◌, arith}
 use lib.Seq.{take-append_seam}
-use Rattle.tsc_script.specs.declared.reads.ReadTurn.{ReadTurn}
+use Rattle.tsc_script.specs.declared.reads.ScriptRead.{ScriptRead}
 use Rattle.tsc_script.specs.Reads.{SourceTurn, gave, turn_of, bytes_given, GoOn}
 use Rattle.tsc_script.specs.ToRead.{BufferState, CountsReads}
 use Rattle.tsc_script.proofs.Turns.{GoOn-append, given-behind}
@@ -18,7 +18,7 @@ returns-in-Some-Gave-clause-turns g c =
     let read = c.in-Some-Gave.ensures.turns in
     let found = read.3 in
     let bytes = take c.in-Some-Gave.count c.read_some.new.chunk in
-    let last : turn_of c.in-Some-Gave.field-0 c.read_some.new.chunk ≡ gave bytes = ap (λ (turn : ReadTurn). turn_of turn c.read_some.new.chunk) c.in-Some-Gave.field-0-is in
+    let last : turn_of c.in-Some-Gave.field-0 c.read_some.new.chunk ≡ gave bytes = ap (λ (turn : ScriptRead). turn_of turn c.read_some.new.chunk) c.in-Some-Gave.field-0-is in
     let all : read.0 ≡ found.0 ++ gave bytes ∷ [] = found.3 ∙ ap (λ (turn : SourceTurn). found.0 ++ turn ∷ []) last in
     let len : length c.read_some.new.chunk ≡ c.self.inside.chunk.len = omega (arith, c.read_some.auto.chunk, c.deref_mut.ensures.len) in (
       read.0,

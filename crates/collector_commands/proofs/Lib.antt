@@ -1,0 +1,4 @@
+pub mod Texts
+pub mod Bodies
+pub mod Replaying
+pub mod Rows

@@ -1,0 +1,95 @@
+-- What the arguments ask for, and how the outcome of a replay arises.
+use Rattle.std.specs.Prelude.{◌≡◌, ◌⊎◌, ℕ, ◌||◌, List, [], ◌∷◌, Option, Some, None, Result, codes, if◌then◌else◌}
+use Rattle.std.specs.Str.{bytes_eq}
+use Rattle.drop_ledger.specs.declared.report.Report.{Report}
+use Rattle.tsc_config.specs.declared.config.Config.{Config}
+use Rattle.script_session.specs.declared.fault.ReplayFault.{ReplayFault}
+use Rattle.collector_commands.specs.declared.outcome.Outcome.{Outcome}
+use Rattle.collector_commands.specs.declared.outcome.Outcome.TheVariants.{Usage, Unreadable, Configuration, NoMemory, CannotListen, CannotWrite}
+use Rattle.collector_commands.specs.declared.asking.Command.{Command}
+use Rattle.collector_commands.specs.declared.asking.Command.TheVariants.{Replay, Serve, Validate, Close, Show, Help, Version}
+use Rattle.collector_commands.specs.Outcomes.{outcome_of}
+use Rattle.collector_commands.specs.Configuration.{FileFails, IsConfigOf}
+use Rattle.collector_commands.specs.declared.configuration.FileFault.{FileFault}
+use Rattle.config_shards.specs.Shards.{settings_by}
+use Rattle.script_session.specs.Replay.{ReplayRun, RunEnds}
+use Rattle.tsc_script.specs.Reads.{KnownReader}
+
+-- what the program was given, and what it left of that before its last text: its arguments, what was read from
+-- the configuration's file, what its reader had given and had left, and what its writer had taken
+pub record Course : Type 0 where
+  pub arguments : List (List ℕ)
+  pub file : Result (List ℕ) FileFault
+  pub unread : KnownReader
+  pub unread_after : KnownReader
+  pub taken : Option (List ℕ)
+  pub taken_after : Option (List ℕ)
+
+-- what a word asks for that stands alone
+unfoldable pub asked_alone : (word : List ℕ) → Option Command
+asked_alone word =
+    if bytes_eq word (codes "help") || (bytes_eq word (codes "-h") || bytes_eq word (codes "--help")) then Some Help
+    else if bytes_eq word (codes "version") || bytes_eq word (codes "--version") then Some Version
+    else if bytes_eq word (codes "show") then Some Show
+    else None
+
+-- what a word asks for that stands before the path of a configuration
+unfoldable pub asked_by : (word : List ℕ) → Option Command
+asked_by word =
+    if bytes_eq word (codes "replay") then Some Replay
+    else if bytes_eq word (codes "serve") then Some Serve
+    else if bytes_eq word (codes "validate") then Some Validate
+    else if bytes_eq word (codes "close") then Some Close
+    else None
+
+-- what the arguments ask for
+abbrev pub asked : (arguments : List (List ℕ)) → Option Command
+asked (word ∷ []) = asked_alone word
+asked (word ∷ path ∷ []) = asked_by word
+asked _ = None
+
+-- this is asked for
+abbrev pub AsksFor : (arguments : List (List ℕ)) → Command → Type 0
+AsksFor arguments command = asked arguments ≡ Some command
+
+-- nothing that there is is asked for
+abbrev pub AsksNothing : (arguments : List (List ℕ)) → Type 0
+AsksNothing arguments = asked arguments ≡ None
+
+-- nothing was read from the script, and nothing was written
+abbrev pub NothingDone : Course → Type 0
+NothingDone course = (course.unread_after ≡ course.unread) × (course.taken_after ≡ course.taken)
+
+-- the run over a course, with the sink's failures after it
+abbrev pub run_of : Course → Config → (failures : ℕ) → ReplayRun
+run_of course config failures = record {
+  settings = settings_by config;
+  sizes = record { batch = config.send_batch_size; queue = config.queue_capacity; keeps_doubles = config.keeps_doubles };
+  lanes = config.lanes;
+  shards = config.shards;
+  taken = course.taken;
+  failures = 0;
+  taken_after = course.taken_after;
+  failures_after = failures;
+  unread = course.unread;
+  unread_after = course.unread_after;
+}
+
+-- a configuration was read, and the run of the script by it had an answer of this outcome
+pub record RanTo (course : Course) (outcome : Outcome) : Type 0 where
+  pub config : Config
+  pub is_read : IsConfigOf course.file config
+  pub failures_after : ℕ
+  pub answer : Result Report ReplayFault
+  pub ends : RunEnds (run_of course config failures_after) answer
+  pub outcome_is : outcome ≡ outcome_of answer
+
+-- how an outcome arises where a replay is asked for: before the script, or by its run
+abbrev pub Replays : Course → Outcome → Type 0
+Replays course Usage = ⊥
+Replays course CannotListen = ⊥
+Replays course CannotWrite = ⊥
+Replays course Unreadable = FileFails course.file Unreadable × NothingDone course
+Replays course (Configuration fault) = FileFails course.file (Configuration fault) × NothingDone course
+Replays course NoMemory = (FileFails course.file NoMemory × NothingDone course) ⊎ RanTo course NoMemory
+Replays course outcome = RanTo course outcome

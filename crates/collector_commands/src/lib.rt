@@ -1,0 +1,26 @@
+//! What `tsc` does where no collector is to run: it looks what its arguments ask for, reads a configuration, runs a
+//! script by it, tells its faults, or shows a request; and how it ends, whatever it did: its last text and its status.
+//!
+//! ```
+//! let (writer, outcome) = replay_by(alloc, read_file(rt, alloc, path), &mut script, writer);
+//! let (writer, status) = finish(writer, &mut text, outcome);
+//! ```
+#![tactic(auto)]
+
+mod asking;
+mod configuration;
+mod outcome;
+mod replaying;
+mod showing;
+mod surroundings;
+mod validating;
+
+pub use asking::{Command, HELP, VERSION, asked};
+pub use configuration::{
+    FileFault, MAX_CONFIG_LEN, ReadFault, config_in, config_of, read_file, text_in,
+};
+pub use outcome::{Outcome, TEXT_ROOM, finish, without_memory};
+pub use replaying::replay_by;
+pub use showing::show_by;
+pub use surroundings::Surroundings;
+pub use validating::told_of;
