@@ -1,6 +1,6 @@
 -- No span is counted as one that found a queue full but by its lane: no journal counts one so, and no batch that was given
 -- up; and at ends where a push waits for room, none is refused. For the law of `Worked`.
-use Rattle.std.proofs.Common.{◌≡◌, ℕ, ◌+◌, ◌<◌, Bool, true, false, not, ◌||◌, cond, List, [], ◌∷◌, ◌++◌, length, is_empty, nat_lt, option_and_then, Option, Some, None, All, slice_get, inl, inr, refl, sym, ap, subst, ◌∙◌, arith}
+use Rattle.std.proofs.Common.{◌≡◌, ℕ, ◌+◌, ◌<◌, Bool, true, false, not, ◌||◌, cond, List, [], ◌∷◌, ◌++◌, length, nat_lt, option_and_then, Option, Some, None, All, slice_get, inl, inr, refl, sym, ap, subst, ◌∙◌, arith}
 use Rattle.std.proofs.lemmas.List.Elements.{All-set}
 use Rattle.span_ids.specs.declared.outcome.Verdict.{Verdict}
 use Rattle.span_ids.specs.declared.outcome.Verdict.TheVariants.{Sampled, NotSampled}
@@ -18,6 +18,7 @@ use Rattle.journal_theory.specs.Fate.{DroppedSpan, Effect, counts, under, is_sam
 use Rattle.journal_theory.proofs.Counted.{under_append, under_counts}
 use Rattle.world_theory.proofs.Steps.{or_both}
 use Rattle.world_theory.specs.World.{CoreConfig, settings_for}
+use Rattle.world_theory.specs.Step.{is_empty}
 use Rattle.span_weave.specs.Threads.{Threads, ExporterAct, ExporterMade, Meets, pulled, handed_over, failed, batch_dropped, new_export, may_drop_batch, after_act, after_acts, journal_of}
 use Rattle.span_weave.specs.Woven.{counted_by_lane, counted_by_shard, counted_in_all}
 use Rattle.span_weave.proofs.Sums.{sum_none}
@@ -114,11 +115,11 @@ by_acts c x (act ∷ acts) end h e = go (after_act c x act) (by_act c x act h) e
 -- ---- all threads
 
 pub only_lanes : (c : CoreConfig) (lanes shards : ℕ) (t : Threads) (end : ExporterMade) → Meets c lanes shards t end → ((lane : ℕ) → lane < lanes → counted_by_lane t shards lane QueueFull ≡ 0) → counted_in_all c lanes shards t end QueueFull ≡ 0
-only_lanes c lanes shards t end meets none = omega (
+only_lanes c lanes shards t end met none = omega (
   arith,
   sum_none lanes (λ lane. counted_by_lane t shards lane QueueFull) none,
   sum_none shards (λ shard. counted_by_shard c lanes t shard QueueFull) (λ shard below. by_journal (settings_for c (lanes + 1)) (journal_of t shard)),
-  by_acts c new_export t.acts end refl meets.exports,
+  by_acts c new_export t.acts end refl met.exports,
 )
 
 -- ---- ends where a push waits for room

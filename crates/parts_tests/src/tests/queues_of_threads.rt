@@ -64,7 +64,12 @@ fn queue_of_two(rt: HostRuntime) -> Result<(), Fail> {
 fn fills<C: Room, R: Wait>(rt: &R, alloc: Global, capacity: u32) -> Result<bool, AllocError>
     requires { (0 < capacity) × (capacity ≡ C.capacity) × (false ≡ C.waits) }
 {
-    let (mut senders, mut receiver) = LaneQueue::new::<Item, C>(alloc, capacity as usize, false, 1)?;
+    let (mut senders, mut receiver) = LaneQueue::new::<Item, C>(
+        alloc,
+        capacity as usize,
+        false,
+        1,
+    )?;
     let sender = &mut senders[0];
     let mut fits = true;
     for item in 0..capacity {
