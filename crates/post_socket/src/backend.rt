@@ -2,6 +2,9 @@
 ghost use Rattle.std.specs.Prelude.{None};
 
 use crate::bodies::protobuf_body;
+use crate::closing::{
+    attempt_limit, closing_since, milliseconds_asked, most_sleeps, next_sleep, time_left,
+};
 use crate::rejected::rejected_in;
 use crate::watch::Watch;
 use batch_post::{AttemptOutcome, Backend, BatchFate};
@@ -14,9 +17,6 @@ use std::net::{Net, TcpStream, ToSocketAddrs};
 use std::random::RandomSource;
 use std::time::{Clock, Duration, Instant};
 use std::{io, thread};
-
-/// The longest sleep in a wait, between two looks whether the collector closes, in milliseconds.
-const SLICE: u64 = 50;
 
 /// Where a backend is, and the longest waits for it, in milliseconds.
 #[derive(Clone, Copy)]
@@ -88,25 +88,19 @@ impl<'t, V: Watch, R: Net<Stream = TcpStream> + Clock + RandomSource> SocketBack
 
     /// Notes when the collector began to close.
     fn look(&mut self) {
-        if self.closing_since.is_none() && self.watch.is_closing() {
-            self.closing_since = Some(elapsed(self.rt, &self.began));
-        }
+        let now = elapsed(self.rt, &self.began);
+        self.closing_since = closing_since(self.closing_since, self.watch.is_closing(), now);
     }
 
     /// How many milliseconds are left, once the collector closes.
     fn time_left(&self) -> Option<u64> {
-        let since = self.closing_since?;
-        let closing = elapsed(self.rt, &self.began).saturating_sub(since);
-        Some(self.settings.close_wait.saturating_sub(closing))
+        let now = elapsed(self.rt, &self.began);
+        time_left(self.closing_since, self.settings.close_wait, now)
     }
 
     /// How long an attempt may take now, which is at least a millisecond.
     fn limit(&self) -> u64 {
-        let limit = match self.time_left() {
-            Some(left) => left.min(self.settings.timeout),
-            None => self.settings.timeout,
-        };
-        limit.max(1)
+        attempt_limit(self.time_left(), self.settings.timeout)
     }
 
     /// The connection that is kept, where its peer neither closed it nor sent anything, or a new one.
@@ -136,10 +130,7 @@ impl<'t, V: Watch, R: Net<Stream = TcpStream> + Clock + RandomSource> SocketBack
             let rejected = rejected_in(self.alloc, encoding, &answer.body);
             self.watch.rejected(rejected);
         }
-        let asked = answer
-            .retry_after
-            .map(|seconds| seconds.saturating_mul(1000));
-        AttemptOutcome::Answered(answer.status, asked)
+        AttemptOutcome::Answered(answer.status, milliseconds_asked(answer.retry_after))
     }
 
     /// The fields and the body of a batch in protobuf, where it is to go so and can.
@@ -236,17 +227,13 @@ impl<'t, V: Watch, R: Net<Stream = TcpStream> + Clock + RandomSource> Backend
     fn wait(&mut self, milliseconds: u64) {
         let began = elapsed(self.rt, &self.began);
         // In slices, so that a close is seen meanwhile. Their number ends the wait where the clock stands still.
-        for _ in 0..=milliseconds / SLICE {
-            let waited = elapsed(self.rt, &self.began).saturating_sub(began);
-            if milliseconds <= waited {
-                return;
-            }
+        for _ in 0..=most_sleeps(milliseconds) {
             self.look();
-            if self.time_left() == Some(0) {
+            let waited = elapsed(self.rt, &self.began).saturating_sub(began);
+            let Some(sleep) = next_sleep(milliseconds, waited, self.time_left()) else {
                 return;
-            }
-            let slice = (milliseconds - waited).min(SLICE);
-            thread::sleep(self.rt, Duration::from_millis(slice));
+            };
+            thread::sleep(self.rt, Duration::from_millis(sleep));
         }
     }
 

@@ -20,6 +20,7 @@
 
 mod backend;
 mod bodies;
+mod closing;
 mod rejected;
 mod watch;
 
