@@ -16,12 +16,12 @@ module _ (manner : Manner) {F T : Type 0} (receives : ℕ → F → LaneAt → L
   pub served_told : (taken : Option (List ℕ)) (failures : ℕ) (taken_after : Option (List ℕ)) (failures_after : ℕ) (answer : Result Report ServeFault) → RunTellsTo manner receives ticks_give config servers ticks taken failures taken_after failures_after answer
       → ServedRunTells manner receives config servers taken failures taken_after failures_after answer
   served_told taken failures taken_after failures_after (Ok report) h = record {
-    core = record { threads = h.ran.threads; end = h.ran.end; ran = h.ran.ran; reports = h.reports; fits = h.fits; moments = h.ran.moments; same_ticks = h.ran.same_ticks; holds = h.holds };
+    core = record { threads = h.ran.threads; end = h.ran.end; ran = h.ran.ran; reports = h.reports; fits = h.fits; never_full = h.never_full; moments = h.ran.moments; same_ticks = h.ran.same_ticks; holds = h.holds };
     lanes = record { stopped = h.ran.stopped; ran = h.ran.lanes_ran };
     none_stopped = h.none_stopped;
   }
   served_told taken failures taken_after failures_after (Err (SinkDown report)) h = record {
-    core = record { threads = h.ran.threads; end = h.ran.end; ran = h.ran.ran; reports = h.reports; fits = h.fits; moments = h.ran.moments; same_ticks = h.ran.same_ticks; holds = h.holds };
+    core = record { threads = h.ran.threads; end = h.ran.end; ran = h.ran.ran; reports = h.reports; fits = h.fits; never_full = h.never_full; moments = h.ran.moments; same_ticks = h.ran.same_ticks; holds = h.holds };
     lanes = record { stopped = h.ran.stopped; ran = h.ran.lanes_ran };
     none_stopped = h.none_stopped;
   }
@@ -29,7 +29,7 @@ module _ (manner : Manner) {F T : Type 0} (receives : ℕ → F → LaneAt → L
   served_told taken failures taken_after failures_after (Err CounterOverflow) h = (
     h.0,
     record {
-      core = record { threads = h.1.ran.threads; end = h.1.ran.end; ran = h.1.ran.ran; passes = h.1.passes; moments = h.1.ran.moments; same_ticks = h.1.ran.same_ticks; holds = h.1.holds };
+      core = record { threads = h.1.ran.threads; end = h.1.ran.end; ran = h.1.ran.ran; passes = h.1.passes; never_full = h.1.never_full; moments = h.1.ran.moments; same_ticks = h.1.ran.same_ticks; holds = h.1.holds };
       lanes = record { stopped = h.1.ran.stopped; ran = h.1.ran.lanes_ran };
     },
   )
