@@ -3,7 +3,7 @@ ghost use Rattle.std.specs.Prelude.{None};
 
 use crate::bodies::protobuf_body;
 use crate::closing::{
-    attempt_limit, closing_since, milliseconds_asked, most_sleeps, next_sleep, time_left,
+    SLICE, attempt_limit, closing_since, milliseconds_asked, next_sleep, time_left,
 };
 use crate::rejected::rejected_in;
 use crate::watch::Watch;
@@ -227,7 +227,7 @@ impl<'t, V: Watch, R: Net<Stream = TcpStream> + Clock + RandomSource> Backend
     fn wait(&mut self, milliseconds: u64) {
         let began = elapsed(self.rt, &self.began);
         // In slices, so that a close is seen meanwhile. Their number ends the wait where the clock stands still.
-        for _ in 0..=most_sleeps(milliseconds) {
+        for _ in 0..=milliseconds / SLICE {
             self.look();
             let waited = elapsed(self.rt, &self.began).saturating_sub(began);
             let Some(sleep) = next_sleep(milliseconds, waited, self.time_left()) else {

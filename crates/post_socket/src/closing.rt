@@ -1,16 +1,9 @@
 //! How long a backend is tried, before and once the collector closes.
-ghost use Rattle.std.specs.Prelude.{◌≡◌, ◌≤◌};
+ghost use Rattle.std.specs.Prelude.{◌≡◌};
 ghost use Rattle.post_socket.specs.Closing.{attempt_limit, closing_since, milliseconds_asked, next_sleep, time_left};
 
 /// The longest sleep in a wait, between two looks whether the collector closes, in milliseconds.
-const SLICE: u64 = 50;
-
-/// The most sleeps of a wait, which end it where the clock stands still.
-pub(crate) fn most_sleeps(milliseconds: u64) -> u64
-    ensures { result * SLICE ≤ milliseconds }
-{
-    milliseconds / SLICE
-}
+pub(crate) const SLICE: u64 = 50;
 
 /// Since when the collector closes, after a look at a moment: the first look that found it so counts.
 pub(crate) fn closing_since(before: Option<u64>, is_closing: bool, now: u64) -> Option<u64>
