@@ -1,2 +1,3 @@
-mod Sent
+pub mod Sent
+pub mod Heard
 mod Rows

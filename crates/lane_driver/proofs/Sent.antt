@@ -1,6 +1,6 @@
 -- What is left to be sent, by how much of it was.
 -- For the clauses of `is_empty` and `flush`.
-use Rattle.std.proofs.Common.{◌≡◌, ◌≤◌, ◌<◌, ◌-◌, ◌++◌, ℕ, zero, suc, List, [], ◌∷◌, length, drop, refl, sym, ◌∙◌, ap, arith, eqb, Bool, true, false, append_assoc, Option}
+use Rattle.std.proofs.Common.{◌≡◌, ◌≢◌, ◌≤◌, ◌<◌, ◌-◌, ◌++◌, ℕ, zero, suc, List, [], ◌∷◌, length, take, drop, refl, sym, ◌∙◌, ap, arith, eqb, Bool, true, false, append_assoc, Option}
 use Rattle.std.proofs.lemmas.Bool.Decides.{nat_tests}
 use Rattle.std.proofs.lemmas.List.{length-drop}
 use Rattle.std.proofs.KnownBytes.{Appends-trans}
@@ -29,13 +29,19 @@ is_sent_none : (a b : List ℕ) (none : Bool) → is_sent a ≡ none → is_sent
 is_sent_none [] b none is empty = empty ∙ is
 is_sent_none (x ∷ a) b none is empty = is
 
-module _ (old mid new : List ℕ) (a b c : Option (List ℕ)) (none : Bool) where
+-- what a write took, where it took some
+pub some_taken : (n : ℕ) (rest : List ℕ) → n ≢ 0 → n ≤ length rest → is_sent (take n rest) ≡ false
+some_taken zero rest some within = absurd (some refl)
+some_taken (suc n) [] some within = absurd (omega (arith, within))
+some_taken (suc n) (x ∷ rest) some within = refl
+
+module _ (old mid new : List ℕ) (a b c : Option (List ℕ)) (none then : Bool) where
   -- a write took some behind it
-  pub sends_on : SendsSome old mid a b none → SendsSome mid new b c false → SendsSome old new a c false
-  sends_on s t =
-      (s.0 ++ t.0, s.1 ∙ ap (λ xs. s.0 ++ xs) t.1 ∙ sym (append_assoc s.0 t.0 new), Appends-trans a b c s.0 t.0 s.2 t.2, is_sent_both s.0 t.0 t.3)
+  pub sends_on : SendsSome old mid a b none → SendsSome mid new b c then → then ≡ false → SendsSome old new a c false
+  sends_on s t some =
+      (s.0 ++ t.0, s.1 ∙ ap (λ xs. s.0 ++ xs) t.1 ∙ sym (append_assoc s.0 t.0 new), Appends-trans a b c s.0 t.0 s.2 t.2, is_sent_both s.0 t.0 (t.3 ∙ some))
 
   -- a write took nothing behind it
-  pub sends_no_more : SendsSome old mid a b none → SendsSome mid new b c true → SendsSome old new a c none
-  sends_no_more s t =
-      (s.0 ++ t.0, s.1 ∙ ap (λ xs. s.0 ++ xs) t.1 ∙ sym (append_assoc s.0 t.0 new), Appends-trans a b c s.0 t.0 s.2 t.2, is_sent_none s.0 t.0 none s.3 t.3)
+  pub sends_no_more : SendsSome old mid a b none → SendsSome mid new b c then → then ≡ true → SendsSome old new a c none
+  sends_no_more s t empty =
+      (s.0 ++ t.0, s.1 ∙ ap (λ xs. s.0 ++ xs) t.1 ∙ sym (append_assoc s.0 t.0 new), Appends-trans a b c s.0 t.0 s.2 t.2, is_sent_none s.0 t.0 none s.3 (t.3 ∙ empty))

@@ -1,7 +1,7 @@
 //! Which connection has its turn next.
-ghost use Rattle.std.specs.Prelude.{◌≡◌, ◌<◌, ◌≤◌, Some, IfOk, length, ⊤};
+ghost use Rattle.std.specs.Prelude.{◌≡◌, ◌<◌, ◌≤◌, None, Some, IfOk, length, ⊤};
 ghost use Rattle.lane_turns.specs.Driving.{FitsNext};
-ghost use Rattle.lane_driver.specs.Heard.{AllStay, Hears, MayEnd, PutsText, SendTheSame};
+ghost use Rattle.lane_driver.specs.Heard.{AllStay, Hears, MayEnd, PutsText, SendTheSame, unsent};
 
 use crate::link::{ConnectionSocket, Got, Looked, Phase, SocketStep, TurnResult};
 use crate::links::{Links, leaves_by};
@@ -97,6 +97,7 @@ impl<'l, P: HasStopMark> TurnDriver<'l, P> {
     /// Closes the socket at this place.
     fn forget(&mut self, place: usize)
         ensures ends { MayEnd place self.old.links.slab self.new.links.slab }
+        ensures gone { unsent self.new.links.slab place ≡ None }
     {
         self.links.remove(place);
         if self.current == Some(place) {
@@ -388,6 +389,7 @@ impl<'l, P: HasStopMark> TurnDriver<'l, P> {
     }
 
     /// The connection of the link at the place that was told had a turn.
+    #[tactic(auto, using(crate::proofs::Heard::gone_puts))]
     fn turned(&mut self, end: Option<ServeEnd>, due: u64, is_idle: bool, text: &[u8])
         ensures puts { PutsText self.old.told text.now end self.old.links.slab self.new.links.slab }
     {

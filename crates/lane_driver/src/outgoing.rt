@@ -77,6 +77,7 @@ impl Outgoing {
     }
 
     /// One write: what was taken goes from the front.
+    #[tactic(auto, using(crate::proofs::Sent::some_taken))]
     pub fn send<W: Write>(&mut self, writer: &mut W) -> SendResult
         ensures { (sent : List ℕ) × (self.old ≡ sent ++ self.new) × Appends (W.contents writer.old) (W.contents writer.new) sent × (is_sent sent ≡ is_none_taken result) }
     {
