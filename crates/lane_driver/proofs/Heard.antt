@@ -1,6 +1,6 @@
 -- A connection that is gone got no answer, and others keep theirs.
 -- For the clause of `TurnDriver::turned`.
-use Rattle.std.proofs.Common.{◌≡◌, ℕ, List, Option, Some, None, sym, ◌∙◌, absurd}
+use Rattle.std.proofs.Common.{◌≡◌, ℕ, List, Option, Some, None, sym, ◌∙◌}
 use Rattle.http_lane.specs.declared.answer.ServeEnd.{ServeEnd}
 use Rattle.lane_driver.specs.Heard.{Sockets, unsent, SendTheSame, MayEnd, PutsText}
 

@@ -2,7 +2,7 @@
 -- No clause needs them: they show the definitions, which code and contracts follow.
 use Rattle.std.proofs.Common.{◌≡◌, ◌∷◌, [], refl}
 use Rattle.std.specs.Prelude.{codes}
-use Rattle.lane_driver.specs.Looks.{since_put, since_sent}
+use Rattle.lane_driver.specs.Looks.{since_put}
 use Rattle.lane_driver.specs.Taking.{leaves_by, taken_from}
 
 -- with the fewest, an eighth more, three more than that, and many more
@@ -12,6 +12,6 @@ taken = refl
 leaving : leaves_by 5000 ≡ 64000
 leaving = refl
 
--- a part was sent, nothing was; more is put behind a rest, and where nothing was left
-standing_still : since_sent (codes "ab") 3 7 ∷ since_sent [] 3 7 ∷ since_put (codes "ab") 3 7 ∷ since_put [] 3 7 ∷ [] ≡ 7 ∷ 3 ∷ 3 ∷ 7 ∷ []
+-- more is put behind a rest, and where nothing was left
+standing_still : since_put (codes "ab") 3 7 ∷ since_put [] 3 7 ∷ [] ≡ 3 ∷ 7 ∷ []
 standing_still = refl

@@ -1,8 +1,6 @@
 -- When a connection is looked at though nothing is ready there, and what a look at it comes to.
 use Rattle.std.specs.Prelude.{ℕ, ◌+◌, ◌-◌, ◌^◌, Bool, true, false, ◌||◌, List, [], ◌∷◌, Option, Some, None, min, if◌then◌else◌, nat_le, ◌==◌}
 use Rattle.lane_turns.specs.declared.table.Leaving.TheVariants.{ReadFailed, WriteFailed}
-use Rattle.lane_driver.specs.declared.outgoing.SendResult.{SendResult}
-use Rattle.lane_driver.specs.declared.outgoing.SendResult.TheVariants.{Some as Taken, Blocked, Failed}
 use Rattle.lane_driver.specs.declared.link.Phase.{Phase}
 use Rattle.lane_driver.specs.declared.link.Phase.TheVariants.{Serving, Closing, Lingering}
 use Rattle.lane_driver.specs.declared.link.Looked.{Looked}
@@ -16,19 +14,9 @@ abbrev pub is_sent : List ℕ → Bool
 is_sent [] = true
 is_sent (b ∷ outgoing) = false
 
--- whether a write took nothing
-abbrev pub is_none_taken : SendResult → Bool
-is_none_taken Taken = false
-is_none_taken Blocked = true
-is_none_taken Failed = true
-
 -- so many milliseconds later
 abbrev pub later : (moment more : ℕ) → ℕ
 later moment more = min (moment + more) (2 ^ 64 - 1)
-
--- since when what is to be sent stands still, once this was sent
-abbrev pub since_sent : (sent : List ℕ) → (since moment : ℕ) → ℕ
-since_sent sent since moment = if is_sent sent then since else moment
 
 -- since when, once more is to be sent: that alone counts where nothing was left
 abbrev pub since_put : (left : List ℕ) → (since moment : ℕ) → ℕ

@@ -1,6 +1,6 @@
 //! A connection's socket.
 ghost use Rattle.std.specs.Prelude.{◌≡◌, ◌<◌, ◌≤◌, ◌++◌, ℕ, List, [], None, is_none, true, Ok, OnOk, OnErr, IfOk, length};
-ghost use Rattle.lane_driver.specs.Looks.{before_read, deadline, is_sent, looked, since_put, since_sent};
+ghost use Rattle.lane_driver.specs.Looks.{before_read, deadline, is_sent, looked, since_put};
 
 use crate::looks::{before_read, looked};
 use crate::outgoing::{Flushed, Outgoing};
@@ -156,7 +156,7 @@ impl ConnectionSocket {
 
     /// Sends what can be sent. `false`: it failed.
     pub fn flush(&mut self, moment: u64) -> bool
-        ensures { (sent : List ℕ) × (self.old.outgoing ≡ sent ++ self.new.outgoing) × (self.new.since ≡ since_sent sent self.old.since moment) }
+        ensures { (sent : List ℕ) × (self.old.outgoing ≡ sent ++ self.new.outgoing) }
     {
         let Flushed { took, failed } = self.outgoing.flush(&mut self.stream);
         if took {

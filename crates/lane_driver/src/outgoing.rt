@@ -1,7 +1,7 @@
 //! What is to be sent on a connection.
-ghost use Rattle.std.specs.Prelude.{◌≡◌, ◌≤◌, ◌++◌, ℕ, List, [], OnOk, OnErr, IsTrue, length, drop, not, true, false};
+ghost use Rattle.std.specs.Prelude.{◌≡◌, ◌≤◌, ◌++◌, ℕ, List, [], OnOk, OnErr, IsTrue, length, drop};
 ghost use Rattle.std.specs.Io.KnownBytes.{Appends};
-ghost use Rattle.lane_driver.specs.Looks.{is_none_taken, is_sent};
+ghost use Rattle.lane_driver.specs.Looks.{is_sent};
 
 use std::alloc::{AllocError, Global};
 use std::io::{ErrorKind, Write};
@@ -77,9 +77,8 @@ impl Outgoing {
     }
 
     /// One write: what was taken goes from the front.
-    #[tactic(auto, using(crate::proofs::Sent::some_taken))]
     pub fn send<W: Write>(&mut self, writer: &mut W) -> SendResult
-        ensures { (sent : List ℕ) × (self.old ≡ sent ++ self.new) × Appends (W.contents writer.old) (W.contents writer.new) sent × (is_sent sent ≡ is_none_taken result) }
+        ensures { (sent : List ℕ) × (self.old ≡ sent ++ self.new) × Appends (W.contents writer.old) (W.contents writer.new) sent }
     {
         match writer.write(&self.bytes[self.at..]) {
             Ok(0) => SendResult::Failed,
@@ -96,7 +95,7 @@ impl Outgoing {
 
     /// Writes until nothing is left, nothing is taken for now, or one fails.
     pub fn flush<W: Write>(&mut self, writer: &mut W) -> Flushed
-        ensures { (sent : List ℕ) × (self.old ≡ sent ++ self.new) × Appends (W.contents writer.old) (W.contents writer.new) sent × (is_sent sent ≡ not result.took) }
+        ensures { (sent : List ℕ) × (self.old ≡ sent ++ self.new) × Appends (W.contents writer.old) (W.contents writer.new) sent }
     {
         let mut took = false;
         for _ in 0..WRITES {
