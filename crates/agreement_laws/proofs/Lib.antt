@@ -1,0 +1,4 @@
+pub mod Pulled
+pub mod Sent
+pub mod Items
+pub mod Same
