@@ -9,11 +9,13 @@ import socket
 import stat
 import subprocess
 import tempfile
+import threading
 import time
 from pathlib import Path
 
 from collector import ALL, ERROR_SPAN, PATIENCE, Client, Failure, asked, body_of, comes_to, free_port, get, post, scrape, spans_of, tried, want
 from serve_limits import at_most, side_by_side, spans_by_number
+from serve_many import is_open
 
 COUNTS = ["tsc_spans_received_total", "tsc_spans_handed_total"] + [
     f'tsc_spans_dropped_total{{reason="{reason}"}}'
@@ -265,6 +267,7 @@ def behind_silent_ones(port):
     for _ in range(5):
         began = time.monotonic()
         want("the spans behind a hundred silent ones", scrape(port)["tsc_spans_received_total"], 1)
+        want("whether the last of them is still there", is_open(silent[-1].socket), True)
         at_most("the wait behind a hundred silent ones", 9, began)
     began = time.monotonic()
     want("the health behind them", asked(port, get("/healthz"))[::2], (200, "ok\n"))
@@ -329,6 +332,74 @@ def slow_questions(start):
     client.close()
     want("the answer to /close", asked(admin, post(b"", "/close"))[::2], (200, "{}"))
     want("the report", collector.end()[1], [0] * 9)
+
+
+def silent_questions(start):
+    """One who says nothing is let go after five seconds: within eight, in one of three tries."""
+    admin = free_port()
+    collector = start(f'admin = "127.0.0.1:{admin}"\n' + ALL)
+
+    def is_let_go():
+        client, began = Client(admin), time.monotonic()
+        want("what it is told", client.rest(), b"")
+        at_most("the time until it is let go", 8, began)
+        client.close()
+
+    tried(3, is_let_go)
+    want("the answer to /close", asked(admin, post(b"", "/close"))[::2], (200, "{}"))
+    want("the report", collector.end()[1], [0] * 9)
+
+
+def left_out_of_spans(start):
+    """Spans of which attributes were left out are counted, each once: by their sender, of the span, of an event or of a link, or as they hold a double."""
+    admin = free_port()
+    collector = start(f'admin = "127.0.0.1:{admin}"\n' + ALL)
+    left = [{}, {"droppedAttributesCount": 3}, {"events": [{}, {"droppedAttributesCount": 1}]}, {"links": [{"droppedAttributesCount": 2}]}]
+    left += [{"attributes": [{"key": "x", "value": {"doubleValue": 0.5}}]}, {"droppedEventsCount": 1, "droppedLinksCount": 1}]
+    spans = [{"traceId": f"{at + 1:032x}", "spanId": f"{at + 1:016x}", **more} for at, more in enumerate(left)]
+    want("the answer", collector.ask(post(body_of(spans)))[0], 200)
+    comes_to("what waits and the incomplete ones", lambda: scrape(admin)["tsc_spans_incomplete_total"], 4)
+    want("the answer to /close", asked(admin, post(b"", "/close"))[::2], (200, "{}"))
+    want("the report", collector.end()[1], [6, 6, 0, 0, 0, 0, 0, 0, 0])
+
+
+def oldest_of_all_shards(start):
+    """For how long the oldest trace has waited is told of all sixteen shards, in whichever it is."""
+    admin = free_port()
+    collector = start(f'admin = "127.0.0.1:{admin}"\nshards = 16\ntick_ms = 50\ndecision_wait_ms = 3600000\n' + ALL)
+    want("the answer", collector.ask(post(body_of(spans_by_number(0, 1))))[0], 200)
+    comes_to("what waits", lambda: sum(scrape(admin)[f'tsc_shard_traces_waiting{{shard="{shard}"}}'] for shard in range(16)), 1)
+    time.sleep(6)
+    want("the answer to others", collector.ask(post(body_of(spans_by_number(1, 500))))[0], 200)
+    comes_to("what waits then", lambda: sum(scrape(admin)[f'tsc_shard_traces_waiting{{shard="{shard}"}}'] for shard in range(16)), 501)
+    want("whether the oldest has waited for six seconds", scrape(admin)["tsc_oldest_waiting_seconds"] >= 6, True)
+    want("the answer to /close", asked(admin, post(b"", "/close"))[::2], (200, "{}"))
+    want("the report", collector.end()[1], [501, 501, 0, 0, 0, 0, 0, 0, 0])
+
+
+def items_that_wait(start):
+    """What waits in a shard's queues from all lanes is told: spans that come while it waits for the output's reader, in one of three tries."""
+    tried(3, lambda: items_wait(start))
+
+
+def items_wait(start):
+    """The same, once: a tick decides what waits, the output takes a part of it, and meanwhile more comes."""
+    admin = free_port()
+    reader, writer = os.pipe()
+    settings = "tick_ms = 3000\ndecision_wait_ms = 500\nexport_capacity = 8\nsend_batch_size = 8\nqueue_capacity = 4096\n"
+    collector = start(f'admin = "127.0.0.1:{admin}"\n' + settings + ALL, output=writer)
+    os.close(writer)
+    spans = lambda first, count: post(body_of([{**it, "name": "x" * 1000} for it in spans_by_number(first, count)]))
+    want("the answer", collector.ask(spans(0, 300))[0], 200)
+    comes_to("whether the output stands still", lambda: scrape(admin)["tsc_output_stalled_seconds"] >= 1, True)
+    for number in range(5):
+        want("the answer meanwhile", collector.ask(spans(300 + 100 * number, 100))[0], 200)
+    reading = threading.Thread(target=lambda: open(reader, "rb").read(), daemon=True)
+    reading.start()
+    comes_to("whether a hundred items wait", lambda: scrape(admin)['tsc_shard_queue_items{shard="0"}'] >= 100, True)
+    want("the answer to /close", asked(admin, post(b"", "/close"))[::2], (200, "{}"))
+    collector.end()
+    reading.join()
 
 
 def odd_questions(start):
@@ -564,6 +635,10 @@ CHECKS = [
     numbers_by_a_socket,
     asks_to_reopen,
     slow_questions,
+    silent_questions,
+    left_out_of_spans,
+    oldest_of_all_shards,
+    items_that_wait,
     odd_questions,
     answers_by_status,
     head_in_pieces,

@@ -50,10 +50,10 @@ def with_more(connection, left, is_enough):
 class Backend:
     """A backend with a script. A step is a list of the pieces of an answer, a tuple of those behind which it ends the connection, a number of
     bytes of the body after which it resets the connection, a wait in seconds before it answers 200, or what makes an answer of a body. `whole` counts
-    the answers that were sent to their end."""
+    the answers that were sent to their end, and `connections` those that were taken."""
 
     def __init__(self, script=(), listens=True):
-        self.script, self.requests, self.taken, self.times, self.whole = list(script), [], [], [], 0
+        self.script, self.requests, self.taken, self.times, self.whole, self.connections = list(script), [], [], [], 0, 0
         self.lock = threading.Lock()
         self.listener = socket.socket()
         self.listener.setsockopt(socket.SOL_SOCKET, socket.SO_REUSEADDR, 1)
@@ -74,6 +74,7 @@ class Backend:
                 connection, _ = self.listener.accept()
             except OSError:
                 return
+            self.connections += 1
             threading.Thread(target=self.serve_one, args=(connection,), daemon=True).start()
 
     def serve_one(self, connection):
@@ -243,14 +244,14 @@ def no_answers(start):
 
 def gives_up(start):
     """An answer that is neither 200 nor one to try again gives the batch up, which is counted, and the next one is delivered."""
-    backend = Backend([[answer(400)], [OK], [answer(500)], [answer(202)]])
+    backend = Backend([[answer(400)], [OK], [answer(500)], [answer(202)], [answer(408)]])
     collector = start(FAST + ALL + backend.settings())
-    for number in range(5):
+    for number in range(6):
         send(collector, number)
         until("the request", lambda n=number: len(backend.requests) >= n + 1)
-    want("how many requests", len(backend.requests), 5)
-    want("what arrived", [ids_in(body) for body in backend.taken], [["0000000000000002"], ["0000000000000005"]])
-    want("the report", collector.close()[1], [5, 2, 0, 0, 0, 0, 0, 0, 3])
+    want("how many requests", len(backend.requests), 6)
+    want("what arrived", [ids_in(body) for body in backend.taken], [["0000000000000002"], ["0000000000000006"]])
+    want("the report", collector.close()[1], [6, 2, 0, 0, 0, 0, 0, 0, 4])
 
 
 def rejected_spans(start):
@@ -351,17 +352,60 @@ def short_waits(start):
 
 
 def long_answers(start):
-    """An answer of sixty thousand bytes is one, and so is one that comes in many pieces."""
-    script = [[answer(200, body=b" " * 60000 + b"{}")], [OK[at : at + 8] for at in range(0, len(OK), 8)]]
+    """An answer of sixty thousand bytes is one, and so is one that comes in many pieces, and one of sixty fields."""
+    script = [[answer(200, body=b" " * 60000 + b"{}")], [OK[at : at + 8] for at in range(0, len(OK), 8)], [answer(200, "".join(f"X-{n}: y\r\n" for n in range(59)))]]
     backend, admin = Backend(script), free_port()
+    collector = start(FAST + ALL + f'admin = "127.0.0.1:{admin}"\n' + backend.settings())
+    for number in range(4):
+        send(collector, number)
+        until("the request", lambda n=number: len(backend.requests) == n + 1)
+    until("the numbers", lambda: attempts_told(admin) == [4, 0, 0])
+    want("the answer to /close", asked(admin, post(b"", "/close"))[::2], (200, "{}"))
+    want("the report", collector.end()[1], [4, 4, 0, 0, 0, 0, 0, 0, 0])
+
+
+def attempts_told(admin):
+    """How many attempts are told as answered 200, otherwise, and not at all."""
+    numbers = scrape(admin)
+    return [numbers[f'tsc_export_attempts_total{{result="{result}"}}'] for result in ("taken", "refused", "unanswered")]
+
+
+def ends_behind_its_answers(start):
+    """A backend that ends a connection behind its answer, without saying so, or that sends more than its answer, has each line by one attempt, each on
+    a connection of its own. (The end of a connection may come late on a slow machine: there are three tries.)"""
+    for step in ((OK,), [OK + answer(503)]):
+        tried(3, lambda it=step: each_by_one_attempt(start, it))
+
+
+def each_by_one_attempt(start, step):
+    """The same, once."""
+    backend, admin = Backend([step] * 3), free_port()
     collector = start(FAST + ALL + f'admin = "127.0.0.1:{admin}"\n' + backend.settings())
     for number in range(3):
         send(collector, number)
-        until("the request", lambda n=number: len(backend.requests) == n + 1)
-    names = [f'tsc_export_attempts_total{{result="{result}"}}' for result in ("taken", "refused", "unanswered")]
-    until("the numbers", lambda: [scrape(admin)[name] for name in names] == [3, 0, 0])
+        until("the answer", lambda n=number: backend.whole >= n + 1)
+        time.sleep(0.3)
+    until("the attempts", lambda: sum(attempts_told(admin)) >= 3)
+    want("the attempts", attempts_told(admin), [3, 0, 0])
+    want("the connections", backend.connections, 3)
     want("the answer to /close", asked(admin, post(b"", "/close"))[::2], (200, "{}"))
     want("the report", collector.end()[1], [3, 3, 0, 0, 0, 0, 0, 0, 0])
+
+
+def reads_no_line(start):
+    """A backend that takes connections and reads nothing: an attempt to send it eight megabytes ends once its time is over."""
+    with socket.socket() as deaf:
+        deaf.setsockopt(socket.SOL_SOCKET, socket.SO_RCVBUF, 4096)
+        deaf.bind(("127.0.0.1", 0))
+        deaf.listen(64)
+        admin = free_port()
+        waits = "timeout_ms = 500\nretry_initial_ms = 20\nretry_max_ms = 20\nclose_wait_ms = 1\n"
+        settings = f'[export]\nendpoint = "http://127.0.0.1:{deaf.getsockname()[1]}/v1/traces"\n' + waits
+        collector = start(FAST + f'max_request_mib = 16\nadmin = "127.0.0.1:{admin}"\n' + ALL + settings)
+        want("the answer", collector.ask(post(body_of([{**span(0), "name": "x" * 8_000_000}])))[0], 200)
+        until("the attempts", lambda: attempts_told(admin)[2] >= 2)
+        want("the answer to /close", asked(admin, post(b"", "/close"))[::2], (200, "{}"))
+        want("the report", collector.end()[1], [1, 0, 0, 0, 0, 0, 0, 0, 1])
 
 
 def trickling_answer(start):
@@ -460,4 +504,4 @@ def asks_again(client, request):
 
 
 CHECKS = [delivers, sends_headers, prints_too, printing_ends, no_time_is_no_wish, tries_again, tells_attempts, no_answers, gives_up, rejected_spans, waits_for_a_backend, late_answer, patience_ends, under_load]
-CHECKS += [waits_grow, short_waits, long_answers, trickling_answer, closes_while_it_waits, closes_while_it_hangs, told_behind_a_loss]
+CHECKS += [waits_grow, short_waits, long_answers, ends_behind_its_answers, reads_no_line, trickling_answer, closes_while_it_waits, closes_while_it_hangs, told_behind_a_loss]

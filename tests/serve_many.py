@@ -259,8 +259,10 @@ def few_open_files(start):
     """With 64 open files and two hundred clients that stay: it goes on serving those that ask, and others once they are gone."""
     collector = start("lanes = 4\n" + ALL, limits=[(resource.RLIMIT_NOFILE, 64)])
     clients = [collector.client() for _ in range(200)]
+    began = time.monotonic()
     for at in range(50):
         want("the answer beside them", collector.ask(post(body_of(spans_by_number(at, 1))))[::2], (200, "{}"))
+    at_most("fifty answers beside them", 40, began)
     for client in clients:
         client.close()
     for at in range(50):
@@ -345,6 +347,38 @@ def slow_pipeliner(start):
     want("the report", collector.close()[1], [1000, 1000, 0, 0, 0, 0, 0, 0, 0])
 
 
+def connections_of_lanes(collector):
+    """How many connections each lane watches, the fewest first: each has an epoll of its own, and watches the listener beside them."""
+    folder, counts = f"/proc/{collector.process.pid}", []
+    for number in os.listdir(f"{folder}/fd"):
+        try:
+            if "eventpoll" in os.readlink(f"{folder}/fd/{number}"):
+                with open(f"{folder}/fdinfo/{number}", encoding="utf-8") as file:
+                    counts.append(sum(line.startswith("tfd:") for line in file) - 1)
+        except FileNotFoundError:
+            pass
+    return sorted(counts)
+
+
+def shared_by_lanes(start):
+    """Of eighty connections that come at once each of eight lanes takes five at least, in one of three tries."""
+    tried(3, lambda: share_eighty(start))
+
+
+def share_eighty(start):
+    """The same, once."""
+    collector = start("lanes = 8\n" + ALL)
+    collector.has_open(0)
+    clients = [collector.client() for _ in range(80)]
+    collector.has_open(80)
+    counts = connections_of_lanes(collector)
+    want("the lanes and their connections", (len(counts), sum(counts)), (8, 80))
+    want(f"whether of {counts} the fewest are five or more", counts[0] >= 5, True)
+    for client in clients:
+        client.close()
+    want("the report", collector.close()[1], [0] * 9)
+
+
 def unread_at_the_limit(start):
     """A request that lies there unread, on a connection that has to leave for a new one, is answered: the program stands still while both come."""
     collector = start("lanes = 1\nmax_connections = 1\n" + ALL)
@@ -366,4 +400,4 @@ def unread_at_the_limit(start):
 
 
 CHECKS = [beside_idle_ones, numbered_by_connection, tricklers, stays_behind_its_refusal, twenty_thousand_short_ones, two_hundred_thousand_short_ones]
-CHECKS += [few_may_be_open, longest_idle_one_leaves, few_open_files, refusals_arrive, reads_nothing, slow_pipeliner, unread_at_the_limit]
+CHECKS += [few_may_be_open, longest_idle_one_leaves, few_open_files, refusals_arrive, reads_nothing, slow_pipeliner, unread_at_the_limit, shared_by_lanes]

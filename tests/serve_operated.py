@@ -5,6 +5,7 @@ import gzip
 import json
 import os
 import re
+import resource
 import socket
 import subprocess
 import tempfile
@@ -12,7 +13,7 @@ import threading
 import time
 
 from collector import ALL, ERROR_SPAN, ERRORS, PATIENCE, Failure, body_of, comes_to, free_port, is_listening, post, scrape, tried, until, want
-from serve_export import FAST, Backend, answer, send
+from serve_export import FAST, OK, WAITS, Backend, answer, send
 from serve_faults import library_of
 from serve_limits import at_most
 
@@ -119,7 +120,7 @@ def batches_of_the_collector(start):
 def is_logged(start):
     """A run says its start, its address, what is full, who closed it and its report: in text, in JSON, or nothing."""
     for form in ("text", "json"):
-        collector = start(f'log = "{form}"\nqueue_capacity = 1\nshards = 1\n' + ALL)
+        collector = start(f'log = "{form}"\nqueue_capacity = 1\nshards = 1\nnum_traces = 60000\n' + ALL)
         spans = [{"traceId": "1" * 32, "spanId": f"{number + 1:016x}"} for number in range(2000)]
         _, _, answer = collector.ask(post(body_of(spans)))
         if "partialSuccess" in answer:
@@ -132,12 +133,54 @@ def is_logged(start):
         want("the events", told, ["starting", "settings", "listening"] + ["queue_full"] * (numbers[3] > 0) + ["closed"])
         fields = dict(events)
         want("the configuration", os.path.basename(fields["starting"]["configuration"]), "config.toml")
-        changed = {"listen", "queue_capacity"} | ({"log"} if form == "json" else set())
+        changed = {"listen", "queue_capacity", "num_traces"} | ({"log"} if form == "json" else set())
         want("what isn't default", set(fields["settings"]["not_default"].split()), changed)
         want("the address", fields["listening"]["address"], f"127.0.0.1:{collector.port}")
         told = [fields["closed"][it] for it in "received handed invalid_id queue_full no_memory evicted not_sampled late_not_sampled exporter_down".split()]
         want("the report", [int(it) for it in told], numbers)
         want("who closed it", fields["closed"]["by"], "request")
+
+
+def closed_with_its_report(start):
+    """The last line of the log tells the report, of which the numbers differ here."""
+    metrics = free_port()
+    collector = start(f'log = "text"\nmetrics = "127.0.0.1:{metrics}"\ndecision_wait_ms = 50\ntick_ms = 20\n' + ERRORS)
+    spans = [{"traceId": f"{trace:032x}", "spanId": f"{trace:016x}", "status": {"code": 2 if trace > 3 else 0}} for trace in range(1, 9)]
+    want("the answer", collector.ask(post(body_of(spans + [{"traceId": "x", "spanId": "y"}])))[0], 200)
+    name = 'tsc_spans_dropped_total{{reason="{}"}}'.format
+    comes_to("those that aren't sampled", lambda: scrape(metrics)[name("not_sampled")], 3)
+    want("the answer to late ones", collector.ask(post(body_of([{**span, "spanId": f"{9:016x}"} for span in spans[:2]])))[0], 200)
+    comes_to("those that come late", lambda: scrape(metrics)[name("late_not_sampled")], 2)
+    _, numbers = collector.close()
+    want("the report", numbers, [11, 5, 1, 0, 0, 0, 3, 2, 0])
+    fields = dict(event_of("text", line) for line in collector.said.splitlines())["closed"]
+    told = [fields[it] for it in "received handed invalid_id queue_full no_memory evicted not_sampled late_not_sampled exporter_down".split()]
+    want("what is told", [int(it) for it in told], numbers)
+
+
+def says_that_files_run_out(start):
+    """Where more connect than files may be open, that is said as such."""
+    collector = start('log = "text"\n' + ALL, limits=[(resource.RLIMIT_NOFILE, 64)])
+    clients = [collector.client() for _ in range(100)]
+    until("it is said", lambda: " WARN files_run_out times=" in collector.says())
+    for client in clients:
+        client.close()
+    want("the report", collector.close()[1], [0] * 9)
+
+
+def says_that_its_backend_is_back(start):
+    """That a backend is away is said, and that it takes again also where of each two attempts one still fails."""
+    backend = Backend([10, [OK]] * 100000, listens=False)
+    collector = start('log = "text"\n' + FAST + ALL + backend.settings(WAITS.replace("retry_initial_ms = 50\nretry_max_ms = 200", "retry_initial_ms = 10\nretry_max_ms = 10")))
+    send(collector, 0)
+    until("it is said to be away", lambda: " backend_away " in collector.says())
+    backend.listen()
+    number, began = 1, time.monotonic()
+    while " backend_back " not in collector.says():
+        at_most("the time until it is said to be back", 30, began)
+        send(collector, number)
+        number += 1
+    want("the report", collector.close()[1], [number, number, 0, 0, 0, 0, 0, 0, 0])
 
 
 def event_of(form, line):
@@ -240,6 +283,25 @@ def output_that_stalls(start):
     want("the report", kept[0].decode().splitlines()[-9:][:2], ["received 5", "handed 5"])
 
 
+def backend_that_stalls(start):
+    """For how long a line is under way is told while its backend doesn't answer, also where the line was printed first."""
+    for more in ("", "lines = true\n"):
+        metrics, answers = free_port(), threading.Event()
+
+        def late(_, answers=answers):
+            answers.wait(PATIENCE)
+            return OK
+
+        backend = Backend([late])
+        collector = start(f'metrics = "127.0.0.1:{metrics}"\n' + FAST + ALL + backend.settings(WAITS.replace("timeout_ms = 60000", "timeout_ms = 600000")) + more)
+        send(collector, 0)
+        until("the request", lambda it=backend: it.requests)
+        until("a stall of two seconds is told", lambda port=metrics: scrape(port)["tsc_output_stalled_seconds"] >= 2)
+        answers.set()
+        comes_to("the stall once it is answered", lambda port=metrics: scrape(port)["tsc_output_stalled_seconds"], 0)
+        want("the report", collector.close()[1], [1, 1, 0, 0, 0, 0, 0, 0, 0])
+
+
 def lines_of_the_log(start):
     """What the log warns of and what it calls an error is counted, and jumps of the wall clock also where nothing is logged."""
     for log, warnings, errors in (("text", 1, 1), ("off", 0, 0)):
@@ -259,10 +321,12 @@ def lines_of_the_log(start):
             comes_to("behind a jump", told, [1, warnings, 0])
             want("the answer", collector.ask(post(body_of([ERROR_SPAN])))[0], 200)
             comes_to("behind a write that failed, and a span given up", told, [1, 2 * warnings, errors])
+            time.sleep(1.5)  # (it is looked twice a second at what is to be said: each is said once)
+            want("a second and a half later", told(), [1, 2 * warnings, errors])
             want("the answer to /close", collector.ask(post(b"", "/close"))[::2], (200, "{}"))
             collector.end(1)
             want("the lines", (collector.said.count(" WARN "), collector.said.count(" ERROR output_failed\n")), (2 * warnings, errors))
 
 
 CHECKS = [listens_everywhere, ticks_wait_for_spans, batches_of_the_collector, is_logged, says_what_was_given_up, says_what_cannot_be, output_that_stalls]
-CHECKS += [waits_by_time_that_passes, lines_of_the_log]
+CHECKS += [waits_by_time_that_passes, lines_of_the_log, closed_with_its_report, says_that_files_run_out, says_that_its_backend_is_back, backend_that_stalls]

@@ -9,7 +9,7 @@ import tempfile
 import threading
 import time
 
-from collector import ALL, ERROR_LINE, ERROR_SPAN, PATIENCE, Client, LeftOut, body_of, free_port, post, spans_of, until, want
+from collector import ALL, ERROR_LINE, ERROR_SPAN, PATIENCE, Client, LeftOut, body_of, comes_to, free_port, post, scrape, spans_of, until, want
 from serve_operated import event_of
 
 EACH_AT_ONCE = "decision_wait_ms = 50\ntick_ms = 10\nsend_batch_size = 1\n"
@@ -107,6 +107,23 @@ def by_its_size(start):
             want("the spans", numbers_of(lines_of(kept + [path])), list(range(count - sum(lines) + 1, count + 1)))
 
 
+def by_the_size_that_was_there(start):
+    """What is in a file at the start counts for its size: it is put aside behind the fifth line, with which it has a mebibyte."""
+    with tempfile.TemporaryDirectory() as folder:
+        path, before = os.path.join(folder, "spans.jsonl"), 600_000 // (len(ERROR_LINE) + 1)
+        with open(path, "w", encoding="utf-8") as file:
+            file.write((ERROR_LINE + "\n") * before)
+        collector = start(f'output = "{path}"\noutput_max_mib = 1\n' + EACH_AT_ONCE + ALL)
+        client = collector.client()
+        for number in range(8):
+            client.send(request(number, 100_000))
+            want("the answer", client.answer()[::2], (200, "{}"))
+        client.close()
+        want("the report", collector.close()[1], [8, 8, 0, 0, 0, 0, 0, 0, 0])
+        want("all files", sorted(os.listdir(folder)), ["spans.jsonl", "spans.jsonl.1"])
+        want("the lines of each", [len(lines_of([it])) for it in (path + ".1", path)], [before + 5, 3])
+
+
 def moved_and_opened_anew(start):
     """The file is moved while lines come, and then it is asked to be opened anew: what comes behind the answer is in the new file, and no line is torn,
     missing or there twice."""
@@ -190,45 +207,53 @@ class SmallDisk:
         self.folder.cleanup()
 
 
+def sends_until_refused(collector, sent):
+    """Sends requests, each until it is taken, until twenty were answered 503. Gives how many were taken in all, with those that were before."""
+    refused, end = 0, time.monotonic() + PATIENCE
+    while time.monotonic() < end and refused < 20:
+        status, fields, _ = collector.ask(request(sent, 4_000))
+        if status == 200:
+            sent += 1
+        else:
+            want("the status and the wait", (status, "retry-after" in fields), (503, True))
+            refused += 1
+            time.sleep(0.1)
+    want("how many were refused", refused, 20)
+    return sent
+
+
 def full_disk_with_retry(start):
-    """A disk that is full: requests are answered 503 meanwhile, and once there is room it goes on without a missing line. It is said once each."""
+    """A disk that is full, twice: requests are answered 503 meanwhile, and once there is room it goes on without a missing line, and its numbers are
+    those of the file. It is said once each time."""
     # What is taken before the disk is full depends on how fast it comes: the disk has room for all of it, once the filler is gone.
     with SmallDisk(8192) as disk:
-        path, filler = os.path.join(disk, "spans.jsonl"), os.path.join(disk, "filler")
-        settings = 'log = "text"\noutput_fault = "retry"\nqueue_full = "retry"\nshards = 1\nlanes = 1\nqueue_capacity = 4\nexport_capacity = 4\n'
+        path, filler, metrics = os.path.join(disk, "spans.jsonl"), os.path.join(disk, "filler"), free_port()
+        settings = f'metrics = "127.0.0.1:{metrics}"\nlog = "text"\noutput_fault = "retry"\nqueue_full = "retry"\nshards = 1\nlanes = 1\nqueue_capacity = 4\nexport_capacity = 4\n'
         collector = start(f'output = "{path}"\n' + settings + EACH_AT_ONCE + ALL)
-        with open(filler, "wb") as file:
-            file.write(bytes((8192 - 56) * 1024))
-        taken, refused, sent = [], 0, 0
-        end = time.monotonic() + PATIENCE
-        while time.monotonic() < end and refused < 20:
-            status, fields, _ = collector.ask(request(sent, 4_000))
-            if status == 200:
-                taken.append(sent + 1)
+        sent = 0
+        for turn in (1, 2):
+            with open(filler, "wb") as file:
+                file.write(bytes((8192 - 56) * 1024 - (os.path.getsize(path) + 4095) // 4096 * 4096))
+            sent = sends_until_refused(collector, sent)
+            # It is looked twice a second at what is to be said, also at what isn't.
+            until("what is said", lambda wanted=turn: collector.says().count(" output_failing ") == wanted)
+            time.sleep(1.5)
+            os.remove(filler)
+            for _ in range(10):
+                until("an answer 200", lambda number=sent: collector.ask(request(number, 4_000))[0] == 200)
                 sent += 1
-            else:
-                want("the status and the wait", (status, "retry-after" in fields), (503, True))
-                refused += 1
-                time.sleep(0.1)
-        want("how many were refused", refused, 20)
-        # It is looked twice a second at what is to be said, also at what isn't.
-        until("what is said", lambda: " output_failing " in collector.says())
-        time.sleep(1.5)
-        os.remove(filler)
-        for _ in range(10):
-            until("an answer 200", lambda: collector.ask(request(sent, 4_000))[0] == 200)
-            taken.append(sent + 1)
-            sent += 1
-        until("what is said", lambda: " output_back " in collector.says())
-        time.sleep(1.5)
+            until("what is said", lambda wanted=turn: collector.says().count(" output_back ") == wanted)
+            time.sleep(1.5)
+        told = lambda *names: [numbers[name] for numbers in [scrape(metrics)] for name in names]
+        comes_to("the lines and the bytes", lambda: told("tsc_lines_total", "tsc_output_bytes_total"), [sent, os.path.getsize(path)])
         lines, numbers = collector.close()
         want("what is printed", lines, [])
-        want("the spans", numbers_of(lines_of([path])), taken)
-        want("the report", (numbers[1], numbers[8]), (len(taken), 0))
+        want("the spans", numbers_of(lines_of([path])), list(range(1, sent + 1)))
+        want("the report", (numbers[1], numbers[8]), (sent, 0))
         events = [event_of("text", line) for line in collector.said.splitlines()]
         told = [(name, fields["what"]) for name, fields in events if name.startswith("output_")]
-        want("what is said", told, [("output_failing", path), ("output_back", path)])
-        want("why", dict(events)["output_failing"]["cause"].startswith("No space left"), True)
+        want("what is said", told, [("output_failing", path), ("output_back", path)] * 2)
+        want("why", {fields["cause"].split(" (")[0] for name, fields in events if name == "output_failing"}, {"No space left on device"})
 
 
 def full_disk_at_the_end(start):
@@ -252,5 +277,5 @@ def full_disk_at_the_end(start):
             want("whether a line was written whole", "\n" in file.read(), False)
 
 
-CHECKS = [to_a_file, behind_a_cut_line, cannot_be_written, by_its_size, moved_and_opened_anew, asked_where_it_cannot_be]
+CHECKS = [to_a_file, behind_a_cut_line, cannot_be_written, by_its_size, by_the_size_that_was_there, moved_and_opened_anew, asked_where_it_cannot_be]
 CHECKS += [full_disk_with_retry, full_disk_at_the_end]
