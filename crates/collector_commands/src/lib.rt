@@ -10,7 +10,7 @@
 mod asking;
 mod configuration;
 mod outcome;
-mod replaying;
+mod replay;
 mod showing;
 mod surroundings;
 mod validating;
@@ -20,7 +20,7 @@ pub use configuration::{
     FileFault, MAX_CONFIG_LEN, ReadFault, config_in, config_of, read_file, text_in,
 };
 pub use outcome::{Outcome, TEXT_ROOM, finish, without_memory};
-pub use replaying::replay_by;
+pub use replay::replay_by;
 pub use showing::show_by;
 pub use surroundings::Surroundings;
 pub use validating::told_of;

@@ -75,7 +75,7 @@ fn print_with<'s, T: Net + Machine, W: Write + Drop>(
         rt,
         alloc,
         observer: &shared.board,
-        brake: Some(shared.board.brake()),
+        brake: shared.board.brake(),
         stop: &shared.stop,
         clock: &clock,
         answers: &shared.loads.traffic.answers,

@@ -177,7 +177,7 @@ fn serve_through<'s, D: Driver + Send + Drop, T: Machine, Output: Destination + 
         rt,
         alloc,
         observer: &shared.board,
-        brake: Some(shared.board.brake()),
+        brake: shared.board.brake(),
         stop: &shared.stop,
         clock: &clock,
         answers: &shared.loads.traffic.answers,

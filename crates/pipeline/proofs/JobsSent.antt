@@ -47,7 +47,7 @@ use Rattle.pipeline.specs.contracts.ticker_job.TickerJob as ticker_job
 lent_field : (a : NamedLft) (T : RattleType) → IsSync T → IsSend (row_field (ShrRef a.mir a.lft T)).row
 lent_field a T y = shr_send a.mir a.lft T y
 
--- what may be a brake
+-- the brake
 brake_field : (a : NamedLft) → IsSend (row_field (ShrRef a.mir a.lft brake.the_row)).row
 brake_field a = lent_field a brake.the_row brake_sent.the_sync
 

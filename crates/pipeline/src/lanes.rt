@@ -107,9 +107,15 @@ fn lane_job<'s, Server: Drop, QueueRoom: Room, Observer, Mark, Time, Runtime: Wa
         alloc: lent.alloc,
         number,
         acceptor,
-        lane: lane_of(lent.rt, asks_again, lent.brake, number, senders, ports).keeping_doubles(
-            keeps_doubles,
-        ),
+        lane: lane_of(
+            lent.rt,
+            asks_again,
+            Some(lent.brake),
+            number,
+            senders,
+            ports,
+        )
+        .keeping_doubles(keeps_doubles),
         room,
         observer: lent.observer,
         stop: lent.stop,

@@ -12,7 +12,7 @@ pub struct ThreadContext<'s, Observer, Mark, Time, Runtime> {
     /// How every shard hashes trace ids.
     pub hashing: TraceHashing,
     pub observer: &'s Observer,
-    pub brake: Option<&'s Brake>,
+    pub brake: &'s Brake,
     pub stop: &'s Mark,
     pub clock: &'s Time,
     pub answers: &'s Answers,
@@ -26,8 +26,8 @@ pub struct RunContext<'s, Observer, Mark, Time, Runtime> {
     pub alloc: Global,
     /// Hears what lanes and shards reach, and what they count.
     pub observer: &'s Observer,
-    /// What tells lanes and shards that no more is to be taken for now, if anything does.
-    pub brake: Option<&'s Brake>,
+    /// What tells lanes and shards that no more is to be taken for now.
+    pub brake: &'s Brake,
     /// The mark that asks the run to end.
     pub stop: &'s Mark,
     /// The moments of requests.

@@ -23,7 +23,7 @@ pub struct ShardJob<'s, QueueRoom: Room, ExportRoom: Room, Observer, Runtime: Wa
     pub receiver: Receiver<Item, QueueRoom>,
     pub sender: Sender<Shipment, ExportRoom>,
     pub observer: &'s Observer,
-    pub brake: Option<&'s Brake>,
+    pub brake: &'s Brake,
 }
 
 /// What a shard's thread leaves.
@@ -74,7 +74,7 @@ impl<'s, QueueRoom: Room, ExportRoom: Room, Observer: Barrier + Watcher, Runtime
                 sender,
                 tally: Tally::new(Told::new(observer)),
             },
-            brake,
+            brake: Some(brake),
         };
         let end = shard_worker::work(rt, turns, receiver, observer);
         let is_full = end.tally.is_full();

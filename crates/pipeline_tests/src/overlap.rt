@@ -7,6 +7,7 @@ use crate::memory::{Held, Mark, MemoryAcceptor, MemorySink, NoTicks, Standing};
 use config_faults::ConfigFault;
 use drop_ledger::Report;
 use http_lane::Answers;
+use lane_queue::Brake;
 use lane_worker::OneByOne;
 use pipeline::{Machine, RunContext, ServeFault, run};
 use std::alloc::{AllocError, Global};
@@ -103,12 +104,12 @@ pub fn run_acceptors<O: Barrier + Watcher + Sync, R: Machine>(
         is_set: AtomicBool::new(course.is_stopped),
     };
     let sink = MemorySink::new(alloc, course.is_broken)?;
-    let answers = Answers::new();
+    let (answers, brake) = (Answers::new(), Brake::new());
     let context = RunContext {
         rt,
         alloc,
         observer,
-        brake: None,
+        brake: &brake,
         stop: &stop,
         clock: &Standing,
         answers: &answers,

@@ -5,6 +5,7 @@ use crate::memory::{Mark, MemorySink, NoTicks, Standing};
 use crate::overlap::{A, configured, request};
 use http_lane::Answers;
 use http_text::Allowed;
+use lane_queue::Brake;
 use lane_turns::{Done, Driver, Leaving, Next};
 use lane_worker::ByTurns;
 use pipeline::{Machine, RunContext, run_by_turns};
@@ -113,12 +114,12 @@ fn run_pieces<R: Machine>(
     let stop = Mark {
         is_set: AtomicBool::new(false),
     };
-    let answers = Answers::new();
+    let (answers, brake) = (Answers::new(), Brake::new());
     let context = RunContext {
         rt,
         alloc,
         observer: &Unwatched,
-        brake: None,
+        brake: &brake,
         stop: &stop,
         clock: &Standing,
         answers: &answers,

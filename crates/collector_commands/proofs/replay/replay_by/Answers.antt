@@ -5,7 +5,7 @@ use Rattle.collector_commands.specs.Configuration.{file_of}
 use Rattle.collector_commands.specs.Courses.{Course, run_of, Replays}
 use Rattle.collector_commands.specs.declared.outcome.Outcome.{Outcome}
 use Rattle.collector_commands.proofs.Replaying.{Replays-ran}
-use Rattle.collector_commands.proofs.replaying.replay_by.Goals as goal
+use Rattle.collector_commands.proofs.replay.replay_by.Goals as goal
 
 pub returns : goal.returns
 returns g c = λ arguments.
