@@ -1,4 +1,2 @@
-pub mod Ports
-pub mod Journals
 pub mod Coming
 pub mod Binding

@@ -1,6 +1,5 @@
--- To be read in this order: Sums, Sampled, Untaken, Percentages, Bounds.
+-- To be read in this order: Sums, Sampled, Percentages, Bounds.
 pub mod Sums
 pub mod Sampled
-pub mod Untaken
 pub mod Percentages
 pub mod Bounds

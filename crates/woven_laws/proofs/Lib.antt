@@ -1,2 +1,1 @@
 pub mod Shards
-pub mod Routes

@@ -1,4 +1,0 @@
-pub mod Pulled
-pub mod Sent
-pub mod Items
-pub mod Same
