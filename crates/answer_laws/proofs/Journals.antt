@@ -184,15 +184,15 @@ module _ (c : CoreConfig) (lanes shards : ℕ) (t : Threads) (end : ExporterMade
         let ticker : items_of sender (t.popped shard) ≡ map (λ m. Tick m) (t.ticks shard) ++ End lanes ∷ [] = ap (λ (j : ℕ). items_of j (t.popped shard)) e ∙ meets.of_ticker shard l in
         each_unmap TellsItem (λ (e : Entry). e.item) (of sender (t.popped shard)) (subst (Each TellsItem) (sym ticker)
         (Each-append TellsItem (map (λ m. Tick m) (t.ticks shard)) (End lanes ∷ [])
-        (Each-map TellsItem (λ m. Tick m) (t.ticks shard) (Each-all (λ (m : ℕ). TellsItem (Tick m)) (t.ticks shard) (λ m no. absurd (cc no))))
-        ((λ no. absurd (cc no)), tt)))
+        (Each-map TellsItem (λ m. Tick m) (t.ticks shard) (Each-all (λ (m : ℕ). TellsItem (Tick m)) (t.ticks shard) (λ m other. absurd (cc other))))
+        ((λ other. absurd (cc other)), tt)))
     by_sender sender shard m l (no n) =
         let one : sender < lanes = omega (arith, m, n) in
         each_unmap TellsItem (λ (e : Entry). e.item) (of sender (t.popped shard)) (subst (Each TellsItem) (sym (meets.of_lane sender shard one l))
         (Each-append TellsItem (map (λ b. Span b) (pushed_in (t.tries sender shard))) (End sender ∷ [])
         (Each-map TellsItem (λ b. Span b) (pushed_in (t.tries sender shard)) (Each-weaker (λ (b : Arrival). Split b (pushed_in (t.tries sender shard))) (λ (b : Arrival). TellsItem (Span b)) (pushed_in (t.tries sender shard))
         (λ b s e. of_pushed sender shard one l b s e) (Split-each (pushed_in (t.tries sender shard)))))
-        ((λ no. absurd (cc no)), tt)))
+        ((λ other. absurd (cc other)), tt)))
 
     by_shard : (shard : ℕ) → shard < shards → Each (λ (e : Entry). TellsItem e.item) (journal_of t shard)
     by_shard shard l = Each-reverse (λ (e : Entry). TellsItem e.item) (map (λ (x : ℕ × Entry). x.1) (t.popped shard)) (Each-map (λ (e : Entry). TellsItem e.item) (λ (x : ℕ × Entry). x.1) (t.popped shard)

@@ -110,14 +110,14 @@ module _ (c : CoreConfig) (w : World) (h : HoldsOf c w) (a : Arrival) (got : Was
 
   -- a span with a fate is at neither of the two places
   by_fate : (became : Fate) (place : Place) → places c w a.key ≡ place ∷ [] → (is_under InvalidId place || false) ≡ false → (is_under QueueFull place || false) ≡ false → HasFate c w a became → IsCountedUntaken c w a
-  by_fate became place e no none f = record {
-    invalid = counted_at InvalidId place e ∙ no ∙ sym (ap not (has_valid became f));
-    full = counted_at QueueFull place e ∙ none ∙ sym (ap (λ (b : Bool). b && not (was_taken w a.key)) (has_valid became f) ∙ ap not (was_taken_by became f));
+  by_fate became place e valid taken f = record {
+    invalid = counted_at InvalidId place e ∙ valid ∙ sym (ap not (has_valid became f));
+    full = counted_at QueueFull place e ∙ taken ∙ sym (ap (λ (b : Bool). b && not (was_taken w a.key)) (has_valid became f) ∙ ap not (was_taken_by became f));
   }
 
   by_either : (first second : Fate) (place : Place) → places c w a.key ≡ place ∷ [] → (is_under InvalidId place || false) ≡ false → (is_under QueueFull place || false) ≡ false → HasFate c w a first ⊎ HasFate c w a second → IsCountedUntaken c w a
-  by_either first second place e no none (inl f) = by_fate first place e no none f
-  by_either first second place e no none (inr f) = by_fate second place e no none f
+  by_either first second place e valid taken (inl f) = by_fate first place e valid taken f
+  by_either first second place e valid taken (inr f) = by_fate second place e valid taken f
 
   by_place : (place : Place) → places c w a.key ≡ place ∷ [] → is_waiting place ≡ false → IsCountedUntaken c w a
   by_place (unrouted n) e gone = absurd (cc gone)

@@ -41,8 +41,8 @@ module _ (c : CoreConfig) (lanes shards : ℕ) (t : Threads) (end : ExporterMade
       let ticker : items_of sender (t.popped shard) ≡ map (λ m. Tick m) (t.ticks shard) ++ End lanes ∷ [] = ap (λ (j : ℕ). items_of j (t.popped shard)) e ∙ meets.of_ticker shard below in
       each_unmap GoesHere (λ (e : Entry). e.item) (of sender (t.popped shard)) (subst (Each GoesHere) (sym ticker)
       (Each-append GoesHere (map (λ m. Tick m) (t.ticks shard)) (End lanes ∷ [])
-      (Each-map GoesHere (λ m. Tick m) (t.ticks shard) (Each-all (λ (m : ℕ). GoesHere (Tick m)) (t.ticks shard) (λ m a no. absurd (cc no))))
-      ((λ a no. absurd (cc no)), tt)))
+      (Each-map GoesHere (λ m. Tick m) (t.ticks shard) (Each-all (λ (m : ℕ). GoesHere (Tick m)) (t.ticks shard) (λ m a other. absurd (cc other))))
+      ((λ a other. absurd (cc other)), tt)))
   by_sender sender m (no n) =
       let one : sender < lanes = omega (arith, m, n) in
       let tried : Each (λ (b : Arrival). goes_to shards shard b ≡ true) (map span_of (t.tries sender shard)) =
@@ -51,7 +51,7 @@ module _ (c : CoreConfig) (lanes shards : ℕ) (t : Threads) (end : ExporterMade
       (Each-append GoesHere (map (λ b. Span b) (pushed_in (t.tries sender shard))) (End sender ∷ [])
       (Each-map GoesHere (λ b. Span b) (pushed_in (t.tries sender shard)) (Each-weaker (λ (b : Arrival). goes_to shards shard b ≡ true) (λ (b : Arrival). GoesHere (Span b)) (pushed_in (t.tries sender shard))
       (λ b goes a e. subst (λ (x : Arrival). goes_to shards shard x ≡ true) (same_span b a e) goes) (each_pushed (λ (b : Arrival). goes_to shards shard b ≡ true) (t.tries sender shard) tried)))
-      ((λ a no. absurd (cc no)), tt)))
+      ((λ a other. absurd (cc other)), tt)))
 
   all_go_here : Each (λ (e : Entry). GoesHere e.item) (journal_of t shard)
   all_go_here = Each-reverse (λ (e : Entry). GoesHere e.item) (map (λ (x : ℕ × Entry). x.1) (t.popped shard)) (Each-map (λ (e : Entry). GoesHere e.item) (λ (x : ℕ × Entry). x.1) (t.popped shard)
