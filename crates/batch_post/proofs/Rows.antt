@@ -36,6 +36,10 @@ gateway_is_late = refl
 no_answer : verdict_of usual NoAnswer 500 250 0 None ≡ Waits 250
 no_answer = refl
 
+-- OTLP/HTTP names four that are tried again, and this is none of them
+request_timeout : verdict_of usual (Answered 408 None) 500 0 0 None ≡ Ends
+request_timeout = refl
+
 bad_request : verdict_of usual (Answered 400 (Some 1000)) 500 0 0 None ≡ Ends
 bad_request = refl
 
