@@ -393,7 +393,7 @@ def each_by_one_attempt(start, step):
 
 
 def reads_no_line(start):
-    """A backend that takes connections and reads nothing: an attempt to send it eight megabytes ends once its time is over."""
+    """A backend that takes connections and reads nothing: an attempt to send it three megabytes ends once its time is over."""
     with socket.socket() as deaf:
         deaf.setsockopt(socket.SOL_SOCKET, socket.SO_RCVBUF, 4096)
         deaf.bind(("127.0.0.1", 0))
@@ -401,8 +401,8 @@ def reads_no_line(start):
         admin = free_port()
         waits = "timeout_ms = 500\nretry_initial_ms = 20\nretry_max_ms = 20\nclose_wait_ms = 1\n"
         settings = f'[export]\nendpoint = "http://127.0.0.1:{deaf.getsockname()[1]}/v1/traces"\n' + waits
-        collector = start(FAST + f'max_request_mib = 16\nadmin = "127.0.0.1:{admin}"\n' + ALL + settings)
-        want("the answer", collector.ask(post(body_of([{**span(0), "name": "x" * 8_000_000}])))[0], 200)
+        collector = start(FAST + f'admin = "127.0.0.1:{admin}"\n' + ALL + settings)
+        want("the answer", collector.ask(post(body_of([{**span(0), "name": "x" * 3_000_000}])))[0], 200)
         until("the attempts", lambda: attempts_told(admin)[2] >= 2)
         want("the answer to /close", asked(admin, post(b"", "/close"))[::2], (200, "{}"))
         want("the report", collector.end()[1], [1, 0, 0, 0, 0, 0, 0, 0, 1])
