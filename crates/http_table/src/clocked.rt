@@ -155,12 +155,12 @@ pub fn holds<R: Wait + Clock>(rt: &R, alloc: Global, line: &str) -> Result<bool,
         end: None,
         is_short: false,
     };
-    let answers = Answers::new();
+    let counted = Answers::new();
     let lent = Lent {
         alloc,
         stop: &mark,
         clock: &clock,
-        answers: &answers,
+        answers: &counted,
     };
     serve_turns(rt, &lent, PLAIN, &mut script, &mut lane, &mut report);
     let wanted = end.split_once('@').unwrap_or((end, ""));

@@ -199,12 +199,12 @@ fn comes<R: Wait + Clock>(
         taken: 0,
         told: 0,
     };
-    let answers = Answers::new();
+    let counted = Answers::new();
     let lent = Lent {
         alloc,
         stop: &mark,
         clock: &clock,
-        answers: &answers,
+        answers: &counted,
     };
     serve_turns(
         rt,

@@ -118,12 +118,12 @@ pub fn served(alloc: Global, setup: &Setup, input: &[u8], way: Way) -> Result<Ca
     let clock = Ticks {
         asked: Cell::new(0),
     };
-    let answers = Answers::new();
+    let counted = Answers::new();
     let lent = Lent {
         alloc,
         stop: &mark,
         clock: &clock,
-        answers: &answers,
+        answers: &counted,
     };
     let end = serve(&lent, &mut lane, &mut report, &mut reader, &mut page);
     let (pushed, last, moment) = queued(lane);
