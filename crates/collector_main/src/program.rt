@@ -1,5 +1,6 @@
 //! The program: what its arguments ask for is done, and then it ends.
 ghost use Rattle.std.specs.Prelude.{ℕ, List, Result, map, string_bytes};
+ghost use Rattle.collector_commands.specs.declared.configuration.FileFault.{FileFault};
 ghost use Rattle.collector_main.specs.Ending.{CameTo, Ends};
 
 use crate::closing::close_by;
