@@ -1,6 +1,6 @@
 -- The walk over the parts of a policy and over the top policies, policy by policy.
--- For the clauses `evaluates` of `evaluate` and `answers` of `answer`.
-use Rattle.std.proofs.Common.{◌≡◌, ℕ, suc, ◌+◌, ◌-◌, ◌^◌, min, ◌≤◌, ◌<◌, ◌==◌, Bool, true, false, ◌&&◌, cond, List, [], ◌∷◌, ◌++◌, length, drop, get_or, Option, refl, sym, ap, subst, ◌∙◌, arith, append-nil, append_assoc, drop-cons, add-one}
+-- For the clauses `evaluates` of `evaluate_with_answers` and `answers` of `answer`.
+use Rattle.std.proofs.Common.{◌≡◌, ℕ, suc, ◌+◌, ◌-◌, ◌^◌, min, ◌≤◌, ◌<◌, ◌==◌, Bool, true, false, ◌&&◌, cond, List, [], ◌∷◌, ◌++◌, length, drop, get_or, Option, refl, sym, ap, subst, ◌∙◌, arith, append-nil, append_assoc, length-append, drop-cons, add-one}
 use Rattle.std.proofs.lemmas.Bool.Decides.{nat_tests}
 use Rattle.std.proofs.lemmas.Bool.{and_parts}
 use Rattle.std.proofs.lemmas.List.{map-append}
@@ -14,7 +14,7 @@ use Rattle.rate_budget.specs.Rising.{numbers}
 use Rattle.policy_eval.specs.Policies as spec
 use Rattle.policy_eval.specs.Amounts.{amount_of, amount_at, AreAmounts}
 use Rattle.policy_eval.specs.AskingLaws.{amounts_are}
-use Rattle.policy_eval.specs.Given.{answer_given, part_answers_given, left_by, left_by_parts, nodes_asked, nodes_asked_in_turn, answers_given, nodes_asked_at_top, asked_given, Asked, EvaluatesWithDecider}
+use Rattle.policy_eval.specs.Given.{answer_given, part_answers_given, left_by, left_by_parts, nodes_asked, nodes_asked_in_turn, answers_given, nodes_asked_at_top, asked_given, Asked, told_given, EvaluatesWithAnswers}
 use Rattle.policy_eval.specs.Walks.{AskedEach, HasAmounts, Answers}
 use Rattle.otlp_types.specs.declared.arrival.Arrival.{Arrival}
 use Rattle.policy_eval.specs.Meaning.{answer_of, is_end, none_seen, seen_with, joined_seen, verdict_of_seen, none_first, first_with, decider_of_seen, knows}
@@ -231,27 +231,39 @@ module _ (S : Type 0) (has : S → ℕ → Bool) (asks : S → ℕ → ℕ → �
 
 -- ---- the top policies
 
+-- a policy has a node
+pub some-nodes : (p : Policy) → 1 ≤ nodes p
+some-nodes (leaf l) = omega arith
+some-nodes (limiting limit) = omega arith
+some-nodes (joined join parts) = omega arith
+
 module _ (S : Type 0) (has : S → ℕ → Bool) (asks : S → ℕ → ℕ → ℕ → Bool → S → Type 0) (s0 : S) (all : Policies) (second : ℕ) (spans : List Arrival) where
   -- the policies `rest` are still to be asked, from number `next` on
-  pub record Top (s : S) (rest : Policies) (next : ℕ) (seen : AnswersSeen) (place : ℕ) (firsts : Firsts) : Type 0 where
+  pub record Top (s : S) (rest : Policies) (next : ℕ) (seen : AnswersSeen) (place : ℕ) (firsts : Firsts) (told : List Answer) : Type 0 where
     pub counted : next + nodes_in rest ≡ nodes_in all
     pub within : nodes_in all ≤ 64
     pub walked : Walked S has asks s0 (limits_in all 0) second spans s rest next
     pub tells : (later : List Bool) → Told seen firsts place (answers_given rest later spans) (answers_given all (walked.mine ++ later) spans)
     pub asking : (later : List Bool) → nodes_asked_at_top all 0 (walked.mine ++ later) spans ≡ numbers walked.asked ++ nodes_asked_at_top rest next later spans
+    pub said : (later : List Bool) → told_given all (walked.mine ++ later) spans ≡ told ++ told_given rest later spans
+    pub placed : place ≤ next
+    pub told_each : length told ≡ place
 
   -- before the first policy
-  pub top-first : nodes_in all ≤ 64 → knows (has s0) (limits_in all 0) ≡ true → Top s0 all 0 none_seen 0 none_first
+  pub top-first : nodes_in all ≤ 64 → knows (has s0) (limits_in all 0) ≡ true → Top s0 all 0 none_seen 0 none_first []
   top-first within known = record {
     counted = omega arith;
     within = within;
     walked = walked-first S has asks s0 (limits_in all 0) second spans all 0 known (λ amounts h. h);
     tells = λ later. told-none (answers_given all later spans);
     asking = λ later. refl;
+    said = λ later. refl;
+    placed = omega arith;
+    told_each = refl;
   }
 
-  pub top-more : (s t : S) (p : Policy) (rest : Policies) (next : ℕ) (seen : AnswersSeen) (place : ℕ) (firsts : Firsts) (a : Answer) → Top s (one_more p rest) next seen place firsts → Answers asks p next second spans a s t → ((m : ℕ) → has t m ≡ has s m) → Top t rest (next + nodes p) (seen_with a seen) (place + 1) (first_with a place firsts)
-  top-more s t p rest next seen place firsts a w part keeps =
+  pub top-more : (s t : S) (p : Policy) (rest : Policies) (next : ℕ) (seen : AnswersSeen) (place : ℕ) (firsts : Firsts) (told : List Answer) (a : Answer) → Top s (one_more p rest) next seen place firsts told → Answers asks p next second spans a s t → ((m : ℕ) → has t m ≡ has s m) → Top t rest (next + nodes p) (seen_with a seen) (place + 1) (first_with a place firsts) (told ++ a ∷ [])
+  top-more s t p rest next seen place firsts told a w part keeps =
       let its = part.2 in
       record {
         counted = omega (arith, w.counted);
@@ -269,11 +281,16 @@ module _ (S : Type 0) (has : S → ℕ → Bool) (asks : S → ℕ → ℕ → �
             ∙ (let e : nodes_asked_at_top (one_more p rest) next (part.0 ++ later) spans ≡ numbers part.1 ++ nodes_asked_at_top rest (next + nodes p) later spans = rw (its.leaves later, its.asks later) in
             let others = nodes_asked_at_top rest (next + nodes p) later spans in
             ap (λ ns. numbers w.walked.asked ++ ns) e ∙ sym (append_assoc (numbers w.walked.asked) (numbers part.1) others) ∙ ap (λ ns. ns ++ others) (sym (numbers-append w.walked.asked part.1)));
+        said = λ later. ap (λ bs. told_given all bs spans) (append_assoc w.walked.mine part.0 later) ∙ w.said (part.0 ++ later)
+            ∙ (let e : told_given (one_more p rest) (part.0 ++ later) spans ≡ a ∷ told_given rest later spans = rw (its.leaves later, sym (its.answers later)) in
+            ap (λ (more : List Answer). told ++ more) e ∙ sym (append_assoc told (a ∷ []) (told_given rest later spans)));
+        placed = let some = some-nodes p in omega (arith, w.placed, some);
+        told_each = length-append told (a ∷ []) ∙ ap (λ n. n + 1) w.told_each;
       }
 
   -- after the last policy
-  pub top-last : (s : S) (next : ℕ) (seen : AnswersSeen) (place : ℕ) (firsts : Firsts) (verdict : Verdict) (decider : Option ℕ) → Top s no_more next seen place firsts → verdict ≡ verdict_of_seen seen → decider ≡ decider_of_seen seen firsts → EvaluatesWithDecider asks all second spans verdict decider s0 s
-  top-last s next seen place firsts verdict decider w e d =
+  pub top-last : (s : S) (next : ℕ) (seen : AnswersSeen) (place : ℕ) (firsts : Firsts) (told : List Answer) (verdict : Verdict) (decider : Option ℕ) → Top s no_more next seen place firsts told → verdict ≡ verdict_of_seen seen → decider ≡ decider_of_seen seen firsts → EvaluatesWithAnswers asks all second spans verdict decider told s0 s
+  top-last s next seen place firsts told verdict decider w e d =
       let full : w.walked.mine ++ [] ≡ w.walked.mine = append-nil w.walked.mine in
       let asked : asked_given all w.walked.mine spans ≡ numbers w.walked.asked = ap (λ bs. nodes_asked_at_top all 0 bs spans) (sym full) ∙ w.asking [] ∙ append-nil (numbers w.walked.asked) in
       let P = λ (bs : List Bool). verdict_of_seen seen ≡ spec.verdict_of_answers (answers_given all bs spans) in
@@ -285,4 +302,5 @@ module _ (S : Type 0) (has : S → ℕ → Bool) (asks : S → ℕ → ℕ → �
         same-eqb (length (asked_given all w.walked.mine spans)) (length w.walked.mine) (ap length asked ∙ asked-lengths asks second spans w.walked.asked w.walked.mine s0 s w.walked.so_far),
         subst Q (sym asked) (asked-amounts asks second spans (amount_at all spans) w.walked.asked w.walked.mine s0 s amounts w.walked.so_far),
         d ∙ subst R full (places-all seen firsts place (answers_given all (w.walked.mine ++ []) spans) (w.tells []).seen (w.tells []).first),
+        let T = λ (bs : List Bool). told ≡ told_given all bs spans in subst T full (sym (w.said [] ∙ append-nil told)),
       )

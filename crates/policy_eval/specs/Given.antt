@@ -1,10 +1,12 @@
 -- What policies mean where their askings get a list of answers in turn: the first asking gets the first answer.
-use Rattle.std.specs.Prelude.{◌≡◌, ℕ, ◌+◌, Bool, true, false, ◌==◌, if◌then◌else◌, List, [], ◌∷◌, ◌++◌, length, Option}
+use Rattle.std.specs.Prelude.{◌≡◌, ℕ, ◌+◌, Bool, true, false, ◌==◌, if◌then◌else◌, List, [], ◌∷◌, ◌++◌, length, map, Option}
 use Rattle.policy_tree.specs.declared.policy.Join.{Join}
 use Rattle.policy_tree.specs.Tree.{Policy, leaf, limiting, joined, Policies, no_more, one_more, nodes}
 use Rattle.otlp_types.specs.declared.arrival.Arrival.{Arrival}
 use Rattle.span_ids.specs.declared.outcome.Verdict.{Verdict}
 use Rattle.policy_eval.specs.Amounts.{amount_at}
+use Rattle.policy_eval.specs.declared.answer.Answer.{Answer as Answered}
+use Rattle.policy_eval.specs.Meaning.{answer_of}
 use Rattle.policy_eval.specs.Policies.{Answer, plain, joined_answer, leaf_answer, ends, verdict_of_answers, decider_of_answers}
 
 -- the answer that the next asking gets: a missing one is a refusal
@@ -74,6 +76,10 @@ verdict_given policies answers spans = verdict_of_answers (answers_given policie
 abbrev pub decider_given : Policies → (answers : List Bool) → List Arrival → Option ℕ
 decider_given policies answers spans = decider_of_answers (answers_given policies answers spans)
 
+-- what each of the policies tells, in order, where the askings get these answers in turn
+abbrev pub told_given : Policies → (answers : List Bool) → List Arrival → List Answered
+told_given policies answers spans = map answer_of (answers_given policies answers spans)
+
 -- the limiter nodes that such a decision asks, in the walk's order
 abbrev pub asked_given : Policies → (answers : List Bool) → List Arrival → List ℕ
 asked_given policies answers spans = nodes_asked_at_top policies 0 answers spans
@@ -103,3 +109,11 @@ EvaluatesWithDecider asks policies second spans verdict decider old new =
     (answers : List Bool) × (verdict ≡ verdict_given policies answers spans) × (are_answered policies answers spans ≡ true)
     × Asked asks second (amount_at policies spans) (asked_given policies answers spans) answers old new
     × (decider ≡ decider_given policies answers spans)
+
+-- and so is what each policy answers
+abbrev pub EvaluatesWithAnswers : {S : Type 0} → (asks : S → ℕ → ℕ → ℕ → Bool → S → Type 0) → Policies → (second : ℕ) → List Arrival → Verdict → (decider : Option ℕ) → List Answered → (old new : S) → Type 0
+EvaluatesWithAnswers asks policies second spans verdict decider told old new =
+    (answers : List Bool) × (verdict ≡ verdict_given policies answers spans) × (are_answered policies answers spans ≡ true)
+    × Asked asks second (amount_at policies spans) (asked_given policies answers spans) answers old new
+    × (decider ≡ decider_given policies answers spans)
+    × (told ≡ told_given policies answers spans)

@@ -9,7 +9,9 @@ use span_ids::Verdict;
 /// What a policy answers for the spans of a trace.
 #[derive(Clone, Copy, PartialEq, Eq)]
 pub enum Answer {
+    /// The trace is sampled.
     Sample,
+    /// The policy doesn't hold.
     NotSample,
     /// An inverted match doesn't match.
     InvertedSample,
@@ -17,6 +19,12 @@ pub enum Answer {
     InvertedNotSample,
     /// The trace is dropped, whatever any other policy answers.
     Dropped,
+}
+
+impl Default for Answer {
+    fn default() -> Answer {
+        Answer::NotSample
+    }
 }
 
 impl Answer {

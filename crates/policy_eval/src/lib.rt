@@ -22,8 +22,9 @@ mod searching;
 mod trace_state;
 mod verdict;
 
+pub use answer::Answer;
 pub use answer_list::{judge, verdict_given};
 pub use laws::{answers_are_by_the_node, asked_nodes_rise, decisions_keep_the_counts};
 pub use searches::Searches;
 pub use searching::searches_for;
-pub use verdict::{evaluate, evaluate_with_decider};
+pub use verdict::{Evaluation, MOST_POLICIES, evaluate, evaluate_with_answers, evaluate_with_decider};

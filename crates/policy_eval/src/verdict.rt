@@ -5,7 +5,7 @@ ghost use Rattle.policy_eval.specs.Searches.{are_known};
 ghost use Rattle.policy_tree.specs.Expressions.{expressions_of, expressions_in};
 ghost use Rattle.policy_tree.specs.Meaning.{meaning, policy_meaning};
 ghost use Rattle.policy_eval.specs.Meaning.{knows};
-ghost use Rattle.policy_eval.specs.Given.{Evaluates, EvaluatesWithDecider};
+ghost use Rattle.policy_eval.specs.Given.{Evaluates, EvaluatesWithDecider, EvaluatesWithAnswers};
 ghost use Rattle.policy_eval.specs.Amounts.{amount_of};
 ghost use Rattle.policy_eval.specs.Walks.{Answers};
 
@@ -13,6 +13,7 @@ use crate::answer::{Answer, AnswersSeen};
 use crate::decider::Firsts;
 use crate::leaf::leaf_answer;
 use crate::searches::Searches;
+use arrayvec::ArrayVec;
 use otlp_types::Arrival;
 use policy_tree::{Limit, Policies, Policy, PolicyKind};
 use rate_budget::Limiter;
@@ -42,7 +43,7 @@ pub fn evaluate<L: Limiter>(
     evaluate_with_decider(policies, spans, now, limiter, searches).0
 }
 
-/// The same, with the place of the policy that decides, from 0 on, if one does. The policies are walked over once.
+/// The same, with the place of the policy that decides, from 0 on, if one does.
 pub fn evaluate_with_decider<L: Limiter>(
     policies: &Policies,
     spans: &[Arrival],
@@ -57,19 +58,61 @@ pub fn evaluate_with_decider<L: Limiter>(
     ensures keeps { (m : ℕ) → L.has_node limiter.new m ≡ L.has_node limiter.old m }
     ensures same { searches.new ≡ searches.old }
 {
+    let Evaluation {
+        verdict,
+        decider,
+        answers: _,
+    } = evaluate_with_answers(policies, spans, now, limiter, searches);
+    (verdict, decider)
+}
+
+/// At most this many policies stand at the top.
+pub const MOST_POLICIES: usize = 64;
+
+/// What policies make of the spans of a trace.
+#[derive(Drop)]
+pub struct Evaluation {
+    pub verdict: Verdict,
+    /// The place of the policy that decides, from 0 on, if one does.
+    pub decider: Option<usize>,
+    /// What each policy answers, in order.
+    pub answers: ArrayVec<Answer, MOST_POLICIES>,
+}
+
+/// The same, with what each policy answers. The policies are walked over once.
+pub fn evaluate_with_answers<L: Limiter>(
+    policies: &Policies,
+    spans: &[Arrival],
+    now: Moment,
+    limiter: &mut L,
+    searches: &mut Searches,
+) -> Evaluation
+    requires nodes { knows (L.has_node limiter.old) (limiters (meaning policies.now)) ≡ true }
+    requires spans { 0 < length spans.now }
+    requires expressions { are_known searches.old (expressions_in (meaning policies.now)) ≡ true }
+    ensures evaluates { EvaluatesWithAnswers L.asks (meaning policies.now) (now / 1000) spans.now result.verdict result.decider result.answers.items limiter.old limiter.new }
+    ensures keeps { (m : ℕ) → L.has_node limiter.new m ≡ L.has_node limiter.old m }
+    ensures same { searches.new ≡ searches.old }
+{
     let second = now / 1000;
     let mut next = 0;
     let mut seen = AnswersSeen::none();
     let mut firsts = Firsts::none();
+    let mut answers = ArrayVec::new();
     let all = policies.as_slice();
     for place in 0..all.len() {
         let policy = &all[place];
         let given = answer(policy, next, spans, second, limiter, searches);
         seen = seen.with(given);
         firsts = firsts.with(given, place);
+        answers.push(given);
         next += policy.count() as u16;
     }
-    (seen.verdict(), firsts.decider(seen))
+    Evaluation {
+        verdict: seen.verdict(),
+        decider: firsts.decider(seen),
+        answers,
+    }
 }
 
 /// The answer of the policy with this number, in this second.

@@ -6,7 +6,8 @@ use Rattle.std.specs.Option.{is_none, is_some}
 use Rattle.policy_tree.specs.Tree.{Policies, no_more}
 use Rattle.policy_tree.specs.Meaning.{meaning}
 use Rattle.policy_eval.specs.Amounts.{amount_at}
-use Rattle.policy_eval.specs.Given.{verdict_given, decider_given, asked_given, are_answered, Asked}
+use Rattle.policy_eval.specs.declared.answer.Answer.{Answer}
+use Rattle.policy_eval.specs.Given.{verdict_given, decider_given, told_given, asked_given, are_answered, Asked}
 use Rattle.trace_buffer.specs.Buffer.{Episode, settled, settle_first, is_due_at, is_root_due, is_too_big, opened_by}
 use Rattle.journal_theory.specs.Journal.{Entry, Journal, Opening, in_buffer, notes_dealt, due_now, clock, policies_for, spans_since, answered, IsAnsweredUpTo}
 use Rattle.journal_theory.specs.Standing.{Standing, standing, episode}
@@ -14,7 +15,7 @@ use Rattle.span_ids.specs.declared.outcome.Verdict.{Verdict}
 use Rattle.otlp_types.specs.declared.arrival.Arrival.{Arrival}
 use Rattle.shard_core.specs.Held.{Held, settings, StandsFor, has_due, is_finished, is_due_in, due_by}
 use Rattle.journal_theory.specs.Deciding.{is_due_by}
-use Rattle.shard_core.specs.Taking.{waiting, Releases, DecidesFirst, AddsDecision, TellsDecider, Decides, DecidesWithDecider, journal_after, dealt_after}
+use Rattle.shard_core.specs.Taking.{waiting, Releases, DecidesFirst, AddsDecision, TellsDecider, TellsAnswers, Decides, DecidesWithDecider, DecidesWithAnswers, journal_after, dealt_after}
 use Rattle.shard_core.specs.Holding.{SettlesFirst, policies_on}
 use Rattle.shard_core.specs.declared.answer.Decided.{Decided}
 use Rattle.shard_core.specs.declared.answer.Decided.TheVariants.{Release, Nothing, Dropped as NotReleased}
@@ -198,6 +199,30 @@ module _ {L : Type 0} (asks : L → ℕ → ℕ → ℕ → Bool → L → Type 
       let D' = λ (ps : Policies). decider ≡ decider_given ps answers e.spans in
       let P = λ (os : List Opening). TellsDecider (settings h) decider answers past os in
       subst P (sym step.2) (subst D (sym step.3) (subst D' on d))
+
+  pub told_nothing : (told : List Answer) (past : Journal) (k : ℕ) → find (is_due_at (due_by h).0 (due_by h).1 (due_by h).2) h.standing.episodes ≡ None → told ≡ [] → StandsFor h past k
+      → TellsAnswers (settings h) told [] past (drop k (due_now (settings h) past))
+  told_nothing told past k f d s =
+      let gone = nothing_left (settings h) (room_of h l) past k h.standing w s.0 s.1 s.2 (sym (due_is h o) ∙ f) in
+      let P = λ (os : List Opening). TellsAnswers (settings h) told [] past os in
+      subst P (sym gone) d
+
+  pub told_some : (answers : List Bool) (told : List Answer) (e : Episode) (past : Journal) (k : ℕ) → find (is_due_at (due_by h).0 (due_by h).1 (due_by h).2) h.standing.episodes ≡ Some e
+      → told ≡ told_given (policies_on (settings h).policies e) answers e.spans → StandsFor h past k → TellsAnswers (settings h) told answers past (drop k (due_now (settings h) past))
+  told_some answers told e [] k f d s = absurd (none_at_first e k f s)
+  told_some answers told e (x ∷ earlier) k f d s =
+      let past : Journal = x ∷ earlier in
+      let policies = policies_for (settings h) in
+      let on = on_is past k e f s in
+      let step = decides-step (settings h) (room_of h l) x earlier k h.standing e w s.0 s.1 s.2 (sym (due_is h o) ∙ f) in
+      let D = λ (spans : List Arrival). told ≡ told_given (policies spans) answers spans in
+      let D' = λ (ps : Policies). told ≡ told_given ps answers e.spans in
+      let P = λ (os : List Opening). TellsAnswers (settings h) told answers past os in
+      subst P (sym step.2) (subst D (sym step.3) (subst D' on d))
+
+-- what is decided, whatever the policies said
+pub without_answers : {L : Type 0} (asks : L → ℕ → ℕ → ℕ → Bool → L → Type 0) (old new : Held) (answer : Decided) (decider : Option ℕ) (told : List Answer) (before after : L) → DecidesWithAnswers asks old new answer decider told before after → DecidesWithDecider asks old new answer decider before after
+without_answers asks old new answer decider told before after d = (d.0, λ past k s. let m = d.1 past k s in (m.0, m.1, m.2, m.3))
 
 -- what is decided, whichever policy did
 pub without_decider : {L : Type 0} (asks : L → ℕ → ℕ → ℕ → Bool → L → Type 0) (old new : Held) (answer : Decided) (decider : Option ℕ) (before after : L) → DecidesWithDecider asks old new answer decider before after → Decides asks old new answer before after

@@ -7,7 +7,8 @@ use Rattle.decision_cache.specs.declared.traces.Remembered.{Remembered}
 use Rattle.decision_cache.specs.declared.traces.Remembered.TheVariants.{Kept as InCache, Off, Lost}
 use Rattle.journal_theory.specs.Fate.{Fate, waits, is_released, is_counted, fate, is_same_reason, released_dealt, dropped_dealt}
 use Rattle.policy_eval.specs.Amounts.{amount_at}
-use Rattle.policy_eval.specs.Given.{verdict_given, decider_given, asked_given, are_answered, Asked}
+use Rattle.policy_eval.specs.Given.{verdict_given, decider_given, told_given, asked_given, are_answered, Asked}
+use Rattle.policy_eval.specs.declared.answer.Answer.{Answer}
 use Rattle.otlp_types.specs.declared.span.Ids.{Ids}
 use Rattle.otlp_types.specs.declared.arrival.Arrival.{Arrival}
 use Rattle.otlp_types.specs.declared.arrival.Item.{Item}
@@ -202,3 +203,18 @@ DecidesWithDecider asks old new answer decider before after = (answers : List Bo
     × StandsFor new (journal_after answer past answers) (dealt_after answer dealt)
     × AddsDecision (settings old) answer answers past dealt
     × TellsDecider (settings old) decider answers past (drop dealt (due_now (settings old) past)))
+
+-- what each policy said by these answers of the limiter, by the episodes that are still to be decided: what they say on
+-- the spans of the first, and nothing where there is none
+abbrev pub TellsAnswers : Settings → (told : List Answer) → (answers : List Bool) → Journal → List Opening → Type 0
+TellsAnswers s told answers past [] = told ≡ []
+TellsAnswers s told answers past (o ∷ later) = told ≡ told_given (policies_for s (spans_since past o)) answers (spans_since past o)
+
+-- What `decide_with_answers` does: the same, with what each policy said by these answers.
+abbrev pub DecidesWithAnswers : {L : Type 0} → (asks : L → ℕ → ℕ → ℕ → Bool → L → Type 0) → (old new : Held) → Decided → (decider : Option ℕ) → (told : List Answer) → (before after : L) → Type 0
+DecidesWithAnswers asks old new answer decider told before after = (answers : List Bool) × ((past : Journal) (dealt : ℕ) → StandsFor old past dealt →
+    DecidesFirst asks old new answer before after answers past (drop dealt (due_now (settings old) past))
+    × StandsFor new (journal_after answer past answers) (dealt_after answer dealt)
+    × AddsDecision (settings old) answer answers past dealt
+    × TellsDecider (settings old) decider answers past (drop dealt (due_now (settings old) past))
+    × TellsAnswers (settings old) told answers past (drop dealt (due_now (settings old) past)))

@@ -3,8 +3,10 @@ ghost use Rattle.std.specs.Prelude.{◌≡◌};
 ghost use Rattle.shard_core.specs.Taking.{answer_to_late};
 
 use decision_cache::Remembered;
+use arrayvec::ArrayVec;
 use otlp_types::Arrival;
-use span_ids::{Reason, Verdict};
+use policy_eval::{Answer, MOST_POLICIES};
+use span_ids::{Moment, Reason, TraceId, Verdict};
 use trace_buffer::Evicted;
 
 /// What a shard did with an item.
@@ -40,6 +42,42 @@ pub enum Decided {
     Dropped(u64),
     /// No trace is due.
     Nothing,
+}
+
+/// What a shard did with the trace that was due, and what the policies said of it.
+#[derive(Drop)]
+pub struct Decision {
+    pub decided: Decided,
+    /// The place of the policy that decided, from 0 on, if one did.
+    pub decider: Option<usize>,
+    /// What each policy answered, in order: nothing where none was asked.
+    pub answers: ArrayVec<Answer, MOST_POLICIES>,
+}
+
+/// Why a trace is decided now.
+#[derive(Clone, Copy, PartialEq, Eq)]
+pub enum DueCause {
+    /// It has waited as long as `decision_wait_ms` says.
+    Wait,
+    /// Its root came as long ago as `root_wait_ms` says.
+    RootWait,
+    /// It is bigger than `maximum_trace_size_bytes`: no policy is asked.
+    Size,
+    /// Nothing more comes.
+    Close,
+}
+
+/// A trace that is due.
+#[derive(Clone, Copy, PartialEq, Eq)]
+pub struct DueTrace {
+    pub trace: TraceId,
+    /// When its first span came, in milliseconds: the shard's clock then.
+    pub opened: Moment,
+    /// The shard's clock now, in milliseconds.
+    pub moment: Moment,
+    /// How many spans it has.
+    pub spans: u64,
+    pub cause: DueCause,
 }
 
 /// What is answered to a late span, by the verdict of its trace.

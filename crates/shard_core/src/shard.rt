@@ -7,7 +7,7 @@ ghost use Rattle.journal_theory.specs.Journal.{Journal, IsAnswered};
 ghost use Rattle.policy_tree.specs.Tree.{limiters};
 ghost use Rattle.policy_tree.specs.Meaning.{meaning};
 ghost use Rattle.policy_eval.specs.Meaning.{knows};
-ghost use Rattle.policy_eval.specs.Given.{EvaluatesWithDecider};
+ghost use Rattle.policy_eval.specs.Given.{EvaluatesWithAnswers};
 ghost use Rattle.policy_eval.specs.Searches.{are_known};
 ghost use Rattle.policy_tree.specs.Expressions.{expressions_in};
 ghost use Rattle.journal_theory.specs.Fate.{effect, effect_dealt, released_dealt, dropped_dealt};
@@ -15,14 +15,16 @@ ghost use Rattle.decision_cache.specs.Lists.{empty_lists};
 ghost use Rattle.shard_core.specs.Taking.{Releases, is_kept};
 ghost use Rattle.trace_buffer.specs.Buffer.{Appended, Opened, is_due_at, is_new, opened_by, stands_undecided};
 ghost use Rattle.shard_core.specs.Holding.{answer_to_append, policies_on};
+ghost use Rattle.shard_core.specs.Telling.{cause_of};
 
-use crate::answer::{Decided, Taken, late};
+use crate::answer::{Decided, Decision, DueCause, DueTrace, Taken, late};
 use crate::ends::all_but;
 use crate::keeping::{appended, opened};
 use crate::setup::{ShardSetup, Waits};
+use arrayvec::ArrayVec;
 use decision_cache::DecisionCache;
 use otlp_types::{Arrival, Ids, Item};
-use policy_eval::{Searches, evaluate_with_decider, searches_for};
+use policy_eval::{Evaluation, Searches, evaluate_with_answers, searches_for};
 use policy_tree::Policies;
 use rate_budget::Limiter;
 use span_ids::{Moment, Reason, Verdict};
@@ -71,9 +73,10 @@ impl Model for Shard {
 
 impl Shard {
     ghost use Rattle.shard_core.specs.Held.{StandsFor, has_due, is_finished, due_by, settings, settings_of};
-    ghost use Rattle.shard_core.specs.Taking.{entry, ends_after, answer_to, is_refusal, is_kept, only_clock, TellsFate, is_last, released_by, dropped_by, Decides, DecidesWithDecider, waiting, released_in, dropped_in, dealt_after};
+    ghost use Rattle.shard_core.specs.Taking.{entry, ends_after, answer_to, is_refusal, is_kept, only_clock, TellsFate, is_last, released_by, dropped_by, Decides, DecidesWithDecider, DecidesWithAnswers, waiting, released_in, dropped_in, dealt_after};
     ghost use Rattle.journal_theory.specs.Journal.{has_ids};
     ghost use Rattle.journal_theory.specs.Marked.{marks_apply};
+    ghost use Rattle.shard_core.specs.Telling.{due_trace};
     ghost use Rattle.shard_core.specs.Holding.{held_after_tick, held_after_end, TakesSpan};
     ghost use Rattle.trace_buffer.specs.Buffer.{traces_waiting, spans_waiting};
 
@@ -297,14 +300,46 @@ impl Shard {
         ensures policies { self.new.policies ≡ self.old.policies }
         ensures settings { settings self.new ≡ settings self.old }
     {
+        let Decision {
+            decided,
+            decider,
+            answers: _,
+        } = self.decide_with_answers(limiter);
+        (decided, decider)
+    }
+
+    /// The same, with what each policy answered, in order: nothing where none was asked, since the trace is too big, or
+    /// nothing is due.
+    pub fn decide_with_answers<L: Limiter>(&mut self, limiter: &mut L) -> Decision
+        requires nodes { knows (L.has_node limiter.old) (limiters (meaning self.old.policies)) ≡ true }
+        ensures decides { DecidesWithAnswers L.asks self.old self.new result.decided result.decider result.answers.items limiter.old limiter.new }
+        ensures unchanged { result.decided ≡ Decided.Nothing → (self.new ≡ self.old) × (limiter.new ≡ limiter.old) }
+        ensures keeps { (node : ℕ) → L.has_node limiter.new node ≡ L.has_node limiter.old node }
+        ensures all_dealt { result.decided ≡ Decided.Nothing → (past : Journal) (dealt : ℕ) → StandsFor self.old past dealt → effect_dealt (settings self.old) past dealt ≡ effect (settings self.old) past }
+        ensures answered { result.decided ≡ Decided.Nothing → (past : Journal) (dealt : ℕ) → StandsFor self.old past dealt → IsAnswered (settings self.old) past }
+        ensures nothing { result.decided ≡ Decided.Nothing → has_due self.new ≡ false }
+        ensures fewer { (result.decided ≡ Decided.Nothing) ⊎ (waiting self.new < waiting self.old) }
+        ensures finished { is_finished self.new ≡ is_finished self.old }
+        ensures ends { self.new.standing.ends ≡ self.old.standing.ends }
+        ensures policies { self.new.policies ≡ self.old.policies }
+        ensures settings { settings self.new ≡ settings self.old }
+    {
         // It goes on from where it came to, as long as mark and waits are the same (D-084).
         self.search();
         let (mark, decision_wait, root_wait) = self.due_by();
         let now = self.clock;
         let Some(episode) = self.buffer.next_due(mark, decision_wait, root_wait) else {
-            return (Decided::Nothing, None);
+            return Decision {
+                decided: Decided::Nothing,
+                decider: None,
+                answers: ArrayVec::new(),
+            };
         };
-        let (verdict, decider) = decide_on(
+        let Evaluation {
+            verdict,
+            decider,
+            answers,
+        } = decide_on(
             &self.policies,
             episode,
             now,
@@ -312,31 +347,73 @@ impl Shard {
             &mut self.searches,
         );
         let spans = self.buffer.settle(mark, decision_wait, root_wait, verdict);
-        (decided(verdict, spans), decider)
+        Decision {
+            decided: decided(verdict, spans),
+            decider,
+            answers,
+        }
+    }
+
+    /// The trace that is decided next, if one is due.
+    pub fn next_due(&mut self) -> Option<DueTrace>
+        ensures due { result ≡ due_trace self.old }
+        ensures same { self.new ≡ self.old }
+    {
+        self.search();
+        let (mark, decision_wait, root_wait) = self.due_by();
+        let finished = self.finished();
+        match self.buffer.next_due(mark, decision_wait, root_wait) {
+            Some(episode) => Some(DueTrace {
+                trace: episode.trace(),
+                opened: episode.moment(),
+                moment: self.clock,
+                spans: episode.spans().len() as u64,
+                cause: cause_of(episode, finished, mark, decision_wait),
+            }),
+            None => None,
+        }
     }
 }
 
-/// The verdict of the policies on an episode's spans, and the place of the one that decides, if one does: of none where
-/// it is too big.
+/// Why an episode that is due is decided now.
+fn cause_of(episode: &Episode, finished: bool, mark: Moment, decision_wait: Moment) -> DueCause
+    ensures { result ≡ cause_of finished mark decision_wait episode.now }
+{
+    if episode.is_too_big() {
+        DueCause::Size
+    } else if finished {
+        DueCause::Close
+    } else if episode.moment() as u128 + decision_wait as u128 <= mark as u128 {
+        DueCause::Wait
+    } else {
+        DueCause::RootWait
+    }
+}
+
+/// What the policies make of an episode's spans: no policy is asked where it is too big.
 fn decide_on<L: Limiter>(
     policies: &Policies,
     episode: &Episode,
     now: Moment,
     limiter: &mut L,
     searches: &mut Searches,
-) -> (Verdict, Option<usize>)
+) -> Evaluation
     requires nodes { knows (L.has_node limiter.old) (limiters (meaning policies.now)) ≡ true }
     requires spans { 0 < length episode.now.spans }
     requires expressions { are_known searches.old (expressions_in (meaning policies.now)) ≡ true }
-    ensures evaluates { EvaluatesWithDecider L.asks (policies_on (meaning policies.now) episode.now) (now / 1000) episode.now.spans result.0 result.1 limiter.old limiter.new }
+    ensures evaluates { EvaluatesWithAnswers L.asks (policies_on (meaning policies.now) episode.now) (now / 1000) episode.now.spans result.verdict result.decider result.answers.items limiter.old limiter.new }
     ensures keeps { (m : ℕ) → L.has_node limiter.new m ≡ L.has_node limiter.old m }
     ensures same { searches.new ≡ searches.old }
 {
     // No policy is asked: so the maximum holds against each, and no limiter pays for what isn't kept (D-064).
     if episode.is_too_big() {
-        return (Verdict::NotSampled, None);
+        return Evaluation {
+            verdict: Verdict::NotSampled,
+            decider: None,
+            answers: ArrayVec::new(),
+        };
     }
-    evaluate_with_decider(policies, episode.spans(), now, limiter, searches)
+    evaluate_with_answers(policies, episode.spans(), now, limiter, searches)
 }
 
 /// The buffer and the cache of a shard that has taken nothing, and which of its senders have ended: none.
