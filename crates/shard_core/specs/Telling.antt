@@ -3,8 +3,8 @@ use Rattle.std.specs.Prelude.{ℕ, ◌+◌, Bool, if◌then◌else◌, nat_le, l
 use Rattle.std.specs.List.{find}
 use Rattle.trace_buffer.specs.Buffer.{Episode, is_due_at, is_too_big}
 use Rattle.shard_core.specs.Held.{Held, is_finished, due_by}
-use Rattle.shard_core.specs.declared.answer.DueCause.{DueCause}
-use Rattle.shard_core.specs.declared.answer.DueCause.TheVariants.{Wait, RootWait, Size, Close}
+use Rattle.decision_line.specs.declared.decision.DueCause.{DueCause}
+use Rattle.decision_line.specs.declared.decision.DueCause.TheVariants.{Wait, RootWait, Size, Close}
 use Rattle.shard_core.specs.declared.answer.DueTrace.{DueTrace}
 
 -- why an episode that is due is decided now: it is too big, nothing more comes, it has waited, or its root has

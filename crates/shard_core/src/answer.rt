@@ -4,6 +4,7 @@ ghost use Rattle.shard_core.specs.Taking.{answer_to_late};
 
 use decision_cache::Remembered;
 use arrayvec::ArrayVec;
+use decision_line::DueCause;
 use otlp_types::Arrival;
 use policy_eval::{Answer, MOST_POLICIES};
 use span_ids::{Moment, Reason, TraceId, Verdict};
@@ -52,19 +53,6 @@ pub struct Decision {
     pub decider: Option<usize>,
     /// What each policy answered, in order: nothing where none was asked.
     pub answers: ArrayVec<Answer, MOST_POLICIES>,
-}
-
-/// Why a trace is decided now.
-#[derive(Clone, Copy, PartialEq, Eq)]
-pub enum DueCause {
-    /// It has waited as long as `decision_wait_ms` says.
-    Wait,
-    /// Its root came as long ago as `root_wait_ms` says.
-    RootWait,
-    /// It is bigger than `maximum_trace_size_bytes`: no policy is asked.
-    Size,
-    /// Nothing more comes.
-    Close,
 }
 
 /// A trace that is due.

@@ -22,7 +22,7 @@ mod keeping;
 mod setup;
 mod shard;
 
-pub use answer::{Decided, Decision, DueCause, DueTrace, Taken};
+pub use answer::{Decided, Decision, DueTrace, Taken};
 pub use desk::{Desk, settle_decided, settle_taken};
 pub use journal_theory::laws;
 pub use setup::{ShardSetup, Waits};

@@ -17,12 +17,13 @@ ghost use Rattle.trace_buffer.specs.Buffer.{Appended, Opened, is_due_at, is_new,
 ghost use Rattle.shard_core.specs.Holding.{answer_to_append, policies_on};
 ghost use Rattle.shard_core.specs.Telling.{cause_of};
 
-use crate::answer::{Decided, Decision, DueCause, DueTrace, Taken, late};
+use crate::answer::{Decided, Decision, DueTrace, Taken, late};
 use crate::ends::all_but;
 use crate::keeping::{appended, opened};
 use crate::setup::{ShardSetup, Waits};
 use arrayvec::ArrayVec;
 use decision_cache::DecisionCache;
+use decision_line::DueCause;
 use otlp_types::{Arrival, Ids, Item};
 use policy_eval::{Evaluation, Searches, evaluate_with_answers, searches_for};
 use policy_tree::Policies;
@@ -128,6 +129,13 @@ impl Shard {
         } else {
             (self.mark, self.waits.decision_wait, self.waits.root_wait)
         }
+    }
+
+    /// Its clock, in milliseconds.
+    pub fn clock(&self) -> Moment
+        ensures { result ≡ self.now.standing.clock }
+    {
+        self.clock
     }
 
     /// How many traces wait for their decision, and how many spans they have, at most 2^64-1. It walks over all.

@@ -1,8 +1,13 @@
 //! What a shard tells those who look at it while it runs. No contract rests on it.
+ghost use Rattle.std.specs.Prelude.{◌≡◌};
+ghost use Rattle.shard_worker.specs.Telling.{said_by};
+
+use decision_line::{DecidedTrace, EvictedTrace, Said};
 use lane_queue::{Brake, Receiver, Room};
 use otlp_types::{Item, Span};
-use shard_core::{Decided, Shard, Taken};
-use span_ids::Moment;
+use policy_eval::{Answer, MOST_POLICIES};
+use shard_core::{Decided, Decision, DueTrace, Shard, Taken};
+use span_ids::{Moment, Verdict};
 use thread_watch::{ShardLoad, Watcher};
 
 /// The least time between two tellings of what a shard holds, in milliseconds.
@@ -47,12 +52,69 @@ pub fn tell_taken<W: Watcher>(watcher: &W, taken: &Taken) {
     }
 }
 
-/// Tells of a decision, and of the policy that decided.
-pub fn tell_decided<W: Watcher>(watcher: &W, decided: &Decided, decider: Option<usize>) {
-    match decided {
-        Decided::Release(_) => watcher.decided(decider, true),
-        Decided::Dropped(_) => watcher.decided(decider, false),
-        Decided::Nothing => {}
+/// Tells of a trace that left the full buffer undecided, at this moment of the shard's clock.
+pub fn tell_evicted<W: Watcher>(watcher: &W, taken: &Taken, moment: Moment) {
+    if let Taken::Kept {
+        evicted: Some(evicted),
+        ..
+    } = taken
+    {
+        if evicted.verdict.is_none() && watcher.hears_decisions() {
+            watcher.trace_evicted(&EvictedTrace {
+                trace: evicted.trace,
+                moment,
+                spans: evicted.spans,
+            });
+        }
+    }
+}
+
+/// Tells of a decision, and of the policy that decided; and of the trace and what each policy said of it, where that is
+/// to be told.
+pub fn tell_decided<W: Watcher>(watcher: &W, decision: &Decision, due: Option<DueTrace>) {
+    let verdict = match &decision.decided {
+        Decided::Release(_) => Verdict::Sampled,
+        Decided::Dropped(_) => Verdict::NotSampled,
+        Decided::Nothing => return,
+    };
+    watcher.decided(decision.decider, verdict == Verdict::Sampled);
+    if let Some(due) = due {
+        tell_trace(watcher, decision, due, verdict);
+    }
+}
+
+/// Tells of a trace that was decided.
+fn tell_trace<W: Watcher>(watcher: &W, decision: &Decision, due: DueTrace, verdict: Verdict) {
+    let mut said = [Said::NotAsked; MOST_POLICIES];
+    let mut asked = 0;
+    for answer in decision.answers.as_slice() {
+        if asked < said.len() {
+            said[asked] = said_by(*answer);
+            asked += 1;
+        }
+    }
+    let told = DecidedTrace {
+        trace: due.trace,
+        moment: due.moment,
+        opened: due.opened,
+        spans: due.spans,
+        verdict,
+        cause: due.cause,
+        decider: decision.decider,
+    };
+    watcher.trace_decided(&told, &said[..asked]);
+}
+
+/// What a policy said, by its answer.
+fn said_by(answer: Answer) -> Said
+    ensures { result ≡ said_by answer }
+{
+    match answer {
+        Answer::Sample => Said::Sampled,
+        Answer::NotSample => Said::NotSampled,
+        Answer::InvertedSample => Said::InvertedSampled,
+        Answer::InvertedNotSample => Said::InvertedNotSampled,
+        Answer::Dropped => Said::Dropped,
     }
 }
 

@@ -1,5 +1,6 @@
 //! What threads count and hold, told while they run.
 use crate::barrier::Barrier;
+use decision_line::{DecidedTrace, EvictedTrace, Said};
 
 /// What a shard holds.
 #[derive(Clone, Copy, PartialEq, Eq)]
@@ -27,6 +28,17 @@ pub trait Watcher {
 
     /// A shard has decided a trace, as sampled or not, by the policy at this place, from 0 on, if one decided.
     fn decided(&self, _decider: Option<usize>, _is_sampled: bool) {}
+
+    /// Whether each decided and each evicted trace is to be told.
+    fn hears_decisions(&self) -> bool {
+        false
+    }
+
+    /// A shard has decided a trace, of which the policies said this, in order, as far as they were asked.
+    fn trace_decided(&self, _decision: &DecidedTrace, _said: &[Said]) {}
+
+    /// A trace has left the full buffer undecided.
+    fn trace_evicted(&self, _evicted: &EvictedTrace) {}
 
     /// A shard hands over a span whose trace was decided before.
     fn handed_late(&self) {}
