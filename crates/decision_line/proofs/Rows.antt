@@ -15,5 +15,5 @@ second_decided : decided_line (codes "errors" ∷ codes "slow" ∷ codes "rest" 
     (record { trace = 91 ∷ 142 ∷ 255 ∷ 247 ∷ 152 ∷ 3 ∷ 129 ∷ 3 ∷ 210 ∷ 105 ∷ 182 ∷ 51 ∷ 129 ∷ 63 ∷ 198 ∷ 12 ∷ []; moment = 1700000030000; opened = 1699999999877; spans = 12; verdict = verdict.Sampled; cause = Wait; decider = Some 1 })
     ≡ codes "{\"traceId\":\"5b8efff798038103d269b633813fc60c\",\"moment\":1700000030000,\"verdict\":\"sampled\",\"policy\":\"slow\",\"by\":\"wait\",\"spans\":12,\"waitedMs\":30123,"
     ++ codes "\"policies\":[{\"name\":\"errors\",\"said\":\"notSampled\"},{\"name\":\"slow\",\"said\":\"sampled\"},{\"name\":\"rest\",\"said\":\"notAsked\"}]}\n"
-unfolding digits, encode_with, escape_byte, print_from
+unfolding digits encode_with escape_byte print_from
 second_decided = refl

@@ -34,9 +34,11 @@ fn put_decider(
     ensures { Appends result line.old.items line.new.items
         (codes ",\"policy\":" ++ print (json_tokens (decider_value (map string_bytes names.now) decider))) }
 {
-    match decider.and_then(|place| names.get(place)) {
-        Some(name) => put_escaped(line, ",\"policy\":\"", name.as_str(), "\""),
-        None => put(line, ",\"policy\":null"),
+    match decider {
+        Some(place) if place < names.len() => {
+            put_escaped(line, ",\"policy\":\"", names[place].as_str(), "\"")
+        }
+        _ => put(line, ",\"policy\":null"),
     }
 }
 

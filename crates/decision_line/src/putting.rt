@@ -1,7 +1,7 @@
 //! Texts, numbers, ids and strings, appended.
-ghost use Rattle.std.specs.Prelude.{◌≡◌, ◌++◌, decimal};
+ghost use Rattle.std.specs.Prelude.{◌≡◌, ◌++◌, decimal, IfOk};
 ghost use Rattle.std.specs.Bool.{OnTrue};
-ghost use Rattle.json.specs.Print.{escape};
+ghost use Rattle.json.specs.Print.{escape, quoted};
 ghost use Rattle.span_ids.specs.Id.{id_text};
 ghost use Rattle.decision_line.specs.Appending.{Appends};
 
@@ -9,7 +9,7 @@ use hex::encode_to_slice;
 use itoa::Buffer;
 use json::Writer;
 use span_ids::TraceId;
-use std::alloc::AllocError;
+use std::alloc::{AllocError, Global};
 
 /// Appends a text.
 pub fn put(line: &mut Vec<u8>, text: &str) -> Result<(), AllocError>
@@ -27,13 +27,14 @@ pub fn put_number(line: &mut Vec<u8>, before: &str, number: u64) -> Result<(), A
     put(line, buffer.format(number))
 }
 
-/// Appends the 32 digits of a trace's id, behind a text.
+/// Appends what stands in a JSON string for a trace's id: its 32 digits, behind a text.
 pub fn put_trace(line: &mut Vec<u8>, before: &str, trace: TraceId) -> Result<(), AllocError>
-    ensures { Appends result line.old.items line.new.items (before.now ++ id_text trace) }
+    ensures { Appends result line.old.items line.new.items (before.now ++ escape (id_text trace)) }
 {
     put(line, before)?;
+    let bytes = trace.bytes();
     let mut digits = [b'0'; 32];
-    let _written = encode_to_slice(trace.bytes(), &mut digits);
+    let _written = encode_to_slice(bytes, &mut digits);
     line.extend_from_slice(&digits)
 }
 
@@ -59,8 +60,21 @@ pub fn put_escaped(
 fn is_plain(text: &[u8]) -> bool
     ensures { OnTrue result (escape text.now ≡ text.now) }
 {
-    text.iter()
-        .all(|byte| *byte >= 0x20 && *byte != b'"' && *byte != b'\\')
+    for byte in text {
+        if *byte == b'"' || *byte == b'\\' || *byte < 0x20 {
+            return false;
+        }
+    }
+    true
+}
+
+/// A text as a JSON string.
+fn quoted(alloc: Global, text: &str) -> Result<Vec<u8>, AllocError>
+    ensures { IfOk result (λ string. string.items ≡ quoted text.now) }
+{
+    let mut writer = Writer::new(Vec::new(alloc));
+    writer.string(text)?;
+    Ok(writer.into_inner())
 }
 
 /// Appends what stands in a JSON string for a text, with its escapes. Few names have any.
@@ -69,9 +83,7 @@ fn is_plain(text: &[u8]) -> bool
 fn put_escapes(line: &mut Vec<u8>, text: &str) -> Result<(), AllocError>
     ensures { Appends result line.old.items line.new.items (escape text.now) }
 {
-    let mut writer = Writer::new(Vec::new(*line.allocator()));
-    writer.string(text)?;
-    let quoted = writer.into_inner();
-    let within = 1..quoted.len() - 1;
-    line.extend_from_slice(&quoted[within])
+    let string = quoted(*line.allocator(), text)?;
+    let end = string.len() - 1;
+    line.extend_from_slice(&string[1..end])
 }
