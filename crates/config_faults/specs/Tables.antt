@@ -40,6 +40,7 @@ number_row number_is.MaxRequest = record { name = codes "max_request_mib"; defau
 number_row number_is.MaximumTraceSize = record { name = codes "maximum_trace_size_bytes"; default = 0; lowest = 0; greatest = 1073741824 }
 number_row number_is.OutputMax = record { name = codes "output_max_mib"; default = 0; lowest = 0; greatest = 1048576 }
 number_row number_is.OutputKeep = record { name = codes "output_keep"; default = 7; lowest = 1; greatest = 1000 }
+number_row number_is.DecisionsMax = record { name = codes "decisions_max_mib"; default = 0; lowest = 0; greatest = 1048576 }
 number_row number_is.Tick = record { name = codes "tick_ms"; default = 1000; lowest = 1; greatest = 60000 }
 number_row number_is.SampledCacheSize = record { name = codes "sampled_cache_size"; default = 0; lowest = 0; greatest = 1000000 }
 number_row number_is.NonSampledCacheSize = record { name = codes "non_sampled_cache_size"; default = 0; lowest = 0; greatest = 1000000 }
@@ -72,6 +73,7 @@ abbrev pub text_row : TextKey → TextRow
 text_row text_is.Listen = record { name = codes "listen"; default = codes "127.0.0.1:4318" }
 text_row text_is.Metrics = record { name = codes "metrics"; default = [] }
 text_row text_is.Output = record { name = codes "output"; default = [] }
+text_row text_is.Decisions = record { name = codes "decisions"; default = [] }
 text_row text_is.OutputFault = record { name = codes "output_fault"; default = codes "discard" }
 text_row text_is.Log = record { name = codes "log"; default = codes "text" }
 
@@ -134,9 +136,11 @@ other_settings =
     ∷ number_setting number_is.MaximumTraceSize
     ∷ number_setting number_is.OutputMax
     ∷ number_setting number_is.OutputKeep
+    ∷ number_setting number_is.DecisionsMax
     ∷ text_setting text_is.Listen
     ∷ text_setting text_is.Metrics
     ∷ text_setting text_is.Output
+    ∷ text_setting text_is.Decisions
     ∷ log_setting text_is.Log
     ∷ switch (codes "accept_gzip")
     ∷ switch (codes "accept_protobuf")

@@ -23,6 +23,7 @@ pub enum NumberKey {
     MaximumTraceSize,
     OutputMax,
     OutputKeep,
+    DecisionsMax,
     Tick,
     SampledCacheSize,
     NonSampledCacheSize,
@@ -59,6 +60,7 @@ impl NumberKey {
             NumberKey::MaximumTraceSize => ("maximum_trace_size_bytes", 0, 0, 1_073_741_824),
             NumberKey::OutputMax => ("output_max_mib", 0, 0, 1_048_576),
             NumberKey::OutputKeep => ("output_keep", 7, 1, 1000),
+            NumberKey::DecisionsMax => ("decisions_max_mib", 0, 0, 1_048_576),
             NumberKey::Tick => ("tick_ms", 1000, 1, 60_000),
             NumberKey::SampledCacheSize => ("sampled_cache_size", 0, 0, 1_000_000),
             NumberKey::NonSampledCacheSize => ("non_sampled_cache_size", 0, 0, 1_000_000),
@@ -102,6 +104,7 @@ pub enum TextKey {
     Listen,
     Metrics,
     Output,
+    Decisions,
     OutputFault,
     Log,
 }
@@ -116,6 +119,7 @@ impl TextKey {
             TextKey::Listen => ("listen", "127.0.0.1:4318"),
             TextKey::Metrics => ("metrics", ""),
             TextKey::Output => ("output", ""),
+            TextKey::Decisions => ("decisions", ""),
             TextKey::OutputFault => ("output_fault", "discard"),
             TextKey::Log => ("log", "text"),
         }
@@ -123,7 +127,7 @@ impl TextKey {
 }
 
 /// The settings of a configuration that are no tables.
-pub fn top_settings() -> [Setting; 28]
+pub fn top_settings() -> [Setting; 30]
     ensures { map spec.setting_of result ≡ spec.top_settings }
 {
     [
@@ -143,9 +147,11 @@ pub fn top_settings() -> [Setting; 28]
         number_setting(NumberKey::MaximumTraceSize),
         number_setting(NumberKey::OutputMax),
         number_setting(NumberKey::OutputKeep),
+        number_setting(NumberKey::DecisionsMax),
         text_setting(TextKey::Listen),
         text_setting(TextKey::Metrics),
         text_setting(TextKey::Output),
+        text_setting(TextKey::Decisions),
         log_setting(TextKey::Log),
         Setting::Default("accept_gzip", ValueKind::Truth, DefaultValue::Off),
         Setting::Default("accept_protobuf", ValueKind::Truth, DefaultValue::Off),

@@ -10,6 +10,8 @@ nothing : with_defaults no_members
     (member (codes "close_at_end_of_input") (boolean false)
     (member (codes "decision_cache") (table (member (codes "non_sampled_cache_size") (integer (pos 0)) (member (codes "sampled_cache_size") (integer (pos 0)) no_members)))
     (member (codes "decision_wait_ms") (integer (pos 30000))
+    (member (codes "decisions") (string [])
+    (member (codes "decisions_max_mib") (integer (pos 0))
     (member (codes "double_values") (string (codes "discard"))
     (member (codes "export_capacity") (integer (pos 1024))
     (member (codes "lanes") (integer (pos 1))
@@ -31,7 +33,7 @@ nothing : with_defaults no_members
     (member (codes "sample_on_first_match") (boolean false)
     (member (codes "send_batch_size") (integer (pos 512))
     (member (codes "shards") (integer (pos 1))
-    (member (codes "tick_ms") (integer (pos 1000)) no_members))))))))))))))))))))))))))
+    (member (codes "tick_ms") (integer (pos 1000)) no_members))))))))))))))))))))))))))))
 unfolding with_defaults
 nothing = refl
 
@@ -67,6 +69,8 @@ served_whole : with_defaults served ≡
     (member (codes "close_at_end_of_input") (boolean false)
     (member (codes "decision_cache") (table (member (codes "non_sampled_cache_size") (integer (pos 100000)) (member (codes "sampled_cache_size") (integer (pos 100000)) no_members)))
     (member (codes "decision_wait_ms") (integer (pos 30000))
+    (member (codes "decisions") (string [])
+    (member (codes "decisions_max_mib") (integer (pos 0))
     (member (codes "double_values") (string (codes "keep"))
     (member (codes "export_capacity") (integer (pos 4096))
     (member (codes "lanes") (integer (pos 4))
@@ -89,7 +93,7 @@ served_whole : with_defaults served ≡
     (member (codes "sample_on_first_match") (boolean false)
     (member (codes "send_batch_size") (integer (pos 512))
     (member (codes "shards") (integer (pos 4))
-    (member (codes "tick_ms") (integer (pos 500)) no_members))))))))))))))))))))))))))))
+    (member (codes "tick_ms") (integer (pos 500)) no_members))))))))))))))))))))))))))))))
 unfolding with_defaults served
 served_whole = refl
 

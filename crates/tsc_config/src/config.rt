@@ -85,6 +85,12 @@ pub struct Config {
     pub output_max_mib: u64,
     /// How many files that were put aside are kept, from 1 to 1000 (this project's option `output_keep`).
     pub output_keep: u64,
+    /// The path of the file behind whose end a line of JSON is written for each trace that is decided or evicted, or
+    /// nothing: then there are no such lines (this project's option `decisions`). It is not looked at here.
+    pub decisions: Text,
+    /// Mebibytes of such lines from which on that file is put aside and another one is begun, from 0 to 1048576, where 0
+    /// is never (this project's option `decisions_max_mib`).
+    pub decisions_max_mib: u64,
     /// What is said of a run, beside its lines (this project's option `log`).
     pub log: LogForm,
     /// Whether bodies that are packed by gzip are taken (RFC 9110, section 8.4.1.3; this project's option
@@ -145,7 +151,8 @@ impl Config {
 /// `max_request_mib`, from 1 to 64, else 4; `log`, `text`, `json` or `off`, else `text`;
 /// `maximum_trace_size_bytes`, from 0 to 1073741824, else 0; `tick_ms`, from 1 to 60000, else 1000; `listen`, a text,
 /// else `127.0.0.1:4318`; `admin` and `metrics`, texts, else nothing; `output`, a text, else nothing; `output_max_mib`,
-/// from 0 to 1048576, else 0; `output_keep`, from 1 to 1000, else 7; `accept_gzip`, `accept_protobuf` and
+/// from 0 to 1048576, else 0; `output_keep`, from 1 to 1000, else 7; `decisions`, a text, else nothing;
+/// `decisions_max_mib`, from 0 to 1048576, else 0; `accept_gzip`, `accept_protobuf` and
 /// `close_at_end_of_input`, true or false, else false; `queue_full`, `partial` or `retry`, else `partial`; `output_fault`, `discard`, `stop` or `retry`,
 /// else `discard`; and `double_values`, `discard` or `keep`, else `discard`; and `export`, a table with a required
 /// `endpoint` ([`Export`] has its keys), else nothing is sent. Of a `string_attribute` policy `values` are regular
@@ -227,6 +234,8 @@ fn given_by(alloc: Global, table: &Table, policies: Policies) -> Result<Config, 
         output: places.output,
         output_max_mib: number_at(table, NumberKey::OutputMax),
         output_keep: number_at(table, NumberKey::OutputKeep),
+        decisions: places.decisions,
+        decisions_max_mib: number_at(table, NumberKey::DecisionsMax),
         log: log_form_at(table),
         accept_gzip: truth_at(table, "accept_gzip"),
         accept_protobuf: truth_at(table, "accept_protobuf"),
