@@ -8,6 +8,7 @@ use otlp_types::{Item, Span};
 use policy_eval::{Answer, MOST_POLICIES};
 use shard_core::{Decided, Decision, DueTrace, Shard, Taken};
 use span_ids::{Moment, Verdict};
+use std::sync::Wait;
 use thread_watch::{ShardLoad, Watcher};
 
 /// The least time between two tellings of what a shard holds, in milliseconds.
@@ -53,25 +54,31 @@ pub fn tell_taken<W: Watcher>(watcher: &W, taken: &Taken) {
 }
 
 /// Tells of a trace that left the full buffer undecided, at this moment of the shard's clock.
-pub fn tell_evicted<W: Watcher>(watcher: &W, taken: &Taken, moment: Moment) {
+pub fn tell_evicted<W: Watcher, R: Wait>(rt: &R, watcher: &W, taken: &Taken, moment: Moment) {
     if let Taken::Kept {
         evicted: Some(evicted),
         ..
     } = taken
     {
         if evicted.verdict.is_none() && watcher.hears_decisions() {
-            watcher.trace_evicted(&EvictedTrace {
+            let told = EvictedTrace {
                 trace: evicted.trace,
                 moment,
                 spans: evicted.spans,
-            });
+            };
+            watcher.trace_evicted(rt, &told);
         }
     }
 }
 
 /// Tells of a decision, and of the policy that decided; and of the trace and what each policy said of it, where that is
 /// to be told.
-pub fn tell_decided<W: Watcher>(watcher: &W, decision: &Decision, due: Option<DueTrace>) {
+pub fn tell_decided<W: Watcher, R: Wait>(
+    rt: &R,
+    watcher: &W,
+    decision: &Decision,
+    due: Option<DueTrace>,
+) {
     let verdict = match &decision.decided {
         Decided::Release(_) => Verdict::Sampled,
         Decided::Dropped(_) => Verdict::NotSampled,
@@ -79,12 +86,18 @@ pub fn tell_decided<W: Watcher>(watcher: &W, decision: &Decision, due: Option<Du
     };
     watcher.decided(decision.decider, verdict == Verdict::Sampled);
     if let Some(due) = due {
-        tell_trace(watcher, decision, due, verdict);
+        tell_trace(rt, watcher, decision, due, verdict);
     }
 }
 
 /// Tells of a trace that was decided.
-fn tell_trace<W: Watcher>(watcher: &W, decision: &Decision, due: DueTrace, verdict: Verdict) {
+fn tell_trace<W: Watcher, R: Wait>(
+    rt: &R,
+    watcher: &W,
+    decision: &Decision,
+    due: DueTrace,
+    verdict: Verdict,
+) {
     let mut said = [Said::NotAsked; MOST_POLICIES];
     let mut asked = 0;
     for answer in decision.answers.as_slice() {
@@ -102,7 +115,7 @@ fn tell_trace<W: Watcher>(watcher: &W, decision: &Decision, due: DueTrace, verdi
         cause: due.cause,
         decider: decision.decider,
     };
-    watcher.trace_decided(&told, &said[..asked]);
+    watcher.trace_decided(rt, &told, &said[..asked]);
 }
 
 /// What a policy said, by its answer.

@@ -1,6 +1,7 @@
 //! What threads count and hold, told while they run.
 use crate::barrier::Barrier;
 use decision_line::{DecidedTrace, EvictedTrace, Said};
+use std::sync::Wait;
 
 /// What a shard holds.
 #[derive(Clone, Copy, PartialEq, Eq)]
@@ -35,10 +36,10 @@ pub trait Watcher {
     }
 
     /// A shard has decided a trace, of which the policies said this, in order, as far as they were asked.
-    fn trace_decided(&self, _decision: &DecidedTrace, _said: &[Said]) {}
+    fn trace_decided<R: Wait>(&self, _rt: &R, _decision: &DecidedTrace, _said: &[Said]) {}
 
     /// A trace has left the full buffer undecided.
-    fn trace_evicted(&self, _evicted: &EvictedTrace) {}
+    fn trace_evicted<R: Wait>(&self, _rt: &R, _evicted: &EvictedTrace) {}
 
     /// A shard hands over a span whose trace was decided before.
     fn handed_late(&self) {}
