@@ -1,5 +1,7 @@
 //! What all threads of a run have counted, for readers while it runs.
+use crate::decision_queue::{DecisionQueue, TraceNews};
 use batch_post::AttemptOutcome;
+use decision_line::{DecidedTrace, EvictedTrace, Said};
 use drop_ledger::{Count, Report};
 use event_log::Level;
 use lane_queue::Brake;
@@ -7,6 +9,7 @@ use metrics_text::{PolicyNumbers, ShardNumbers};
 use otlp_types::{Text, TryClone};
 use policy_tree::Policies;
 use std::alloc::{AllocError, Global};
+use std::sync::Wait;
 use std::sync::atomic::{AtomicBool, AtomicU64, Ordering};
 use thread_watch::{Barrier, ShardLoad, Watcher};
 
@@ -97,6 +100,8 @@ pub struct Board {
     failing_since: AtomicU64,
     /// The system's number of the error by which that began, and 0: nothing was taken.
     failing_code: AtomicU64,
+    /// Where decisions wait until they are written, if they are.
+    decisions: Option<DecisionQueue>,
 }
 
 impl Board {
@@ -135,7 +140,19 @@ impl Board {
             clock_jumps: AtomicU64::new(0),
             failing_since: AtomicU64::new(0),
             failing_code: AtomicU64::new(0),
+            decisions: None,
         })
+    }
+
+    /// From now on decisions are kept until they are taken.
+    pub fn keep_decisions(&mut self, alloc: Global) -> Result<(), AllocError> {
+        self.decisions = Some(DecisionQueue::new(alloc)?);
+        Ok(())
+    }
+
+    /// Where decisions wait until they are written, if they are.
+    pub fn decision_queue(&self) -> Option<&DecisionQueue> {
+        self.decisions.as_ref()
     }
 
     /// The counts as they are now.
@@ -407,6 +424,22 @@ impl Watcher for Board {
             cells.sampled.fetch_add(1, Ordering::Relaxed);
         } else {
             cells.not_sampled.fetch_add(1, Ordering::Relaxed);
+        }
+    }
+
+    fn hears_decisions(&self) -> bool {
+        self.decisions.is_some()
+    }
+
+    fn trace_decided<R: Wait>(&self, rt: &R, trace: &DecidedTrace, said: &[Said]) {
+        if let Some(queue) = &self.decisions {
+            queue.put(rt, TraceNews::decided(*trace, said));
+        }
+    }
+
+    fn trace_evicted<R: Wait>(&self, rt: &R, trace: &EvictedTrace) {
+        if let Some(queue) = &self.decisions {
+            queue.put(rt, TraceNews::Evicted(*trace));
         }
     }
 

@@ -1,5 +1,5 @@
 //! What the threads of a collector that runs tell one another: the board of its counts, the mark to stop and who set it,
-//! for how long a write has been under way; and what writes there beside its work: the output, and what sends batches.
+//! for how long a write has been under way, and what became of which trace; and what writes there beside its work: the output, and what sends batches.
 //!
 //! ```
 //! let board = Board::new(alloc, config.shards, &config.policies)?;
@@ -9,6 +9,7 @@
 #![tactic(auto)]
 
 mod board;
+mod decision_queue;
 mod export_watch;
 mod output_stall;
 mod stop_mark;
@@ -17,6 +18,7 @@ mod watched_destination;
 mod write_watch;
 
 pub use board::Board;
+pub use decision_queue::{DecisionQueue, TraceNews};
 pub use export_watch::ExportWatch;
 pub use output_stall::OutputStall;
 pub use stop_mark::{Closer, StopMark};

@@ -5,7 +5,8 @@ ghost use Rattle.tsc_config.specs.Values.{InRange};
 ghost use Rattle.collector_commands.specs.Configuration.{file_of};
 ghost use Rattle.collector_main.specs.Serving.{Serves, RunsTo, FilesTo, writes_file};
 
-use crate::logging::{say_end, say_fault, say_no_memory, say_refused, say_start};
+use crate::deciding::opened_decisions;
+use crate::logging::{say_end, say_fault, say_lost, say_no_memory, say_refused, say_start};
 use crate::opening::{charge_of, copy_of, opened, watches};
 use crate::running::serve_with;
 use collector_board::WriteWatch;
@@ -84,6 +85,9 @@ pub fn serve_by<
     let Ok(output) = opened_output(rt, alloc, &config, &charge.reopen, &mut events) else {
         return (writer, Outcome::CannotWrite);
     };
+    let Ok(decisions) = opened_decisions(rt, alloc, &config, &charge, &mut events) else {
+        return (writer, Outcome::CannotWrite);
+    };
     let Ok((listener, door)) = opened(rt, alloc, &config, &charge, around.input, &mut events) else {
         return (writer, Outcome::CannotListen);
     };
@@ -91,6 +95,8 @@ pub fn serve_by<
     // Who connected meanwhile is answered, and then nobody listens any more (D-177).
     door.end(rt, &charge);
     drop(listener);
+    decisions.end(rt);
+    say_lost(rt, alloc, &mut events, &charge);
     // Once the run has ended, and before the report is printed (D-194).
     charge.removes_sockets(rt);
     say_end(rt, alloc, &mut events, &charge, &ended.1);

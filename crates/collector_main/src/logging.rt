@@ -163,6 +163,23 @@ pub fn say_end<W: Write + Drop, R: Clock>(
     }
 }
 
+/// Says how many lines of decisions are never written, where some aren't.
+pub fn say_lost<W: Write + Drop, R: Clock>(
+    rt: &R,
+    alloc: Global,
+    events: &mut EventWriter<W>,
+    charge: &Charge,
+) {
+    let Some(queue) = charge.board.decision_queue() else {
+        return;
+    };
+    let lost = queue.lost();
+    if lost > 0 {
+        let fields = [number("lines", lost)];
+        events.say(rt, alloc, Level::Error, "decisions_not_written", &fields);
+    }
+}
+
 /// Says that a run is closed, who asked for it, and what became of each span.
 fn say_report<W: Write + Drop, R: Clock>(
     rt: &R,

@@ -9,6 +9,7 @@
 mod changed_settings;
 mod closing;
 mod collecting;
+mod deciding;
 mod logging;
 mod opening;
 mod program;

@@ -51,14 +51,19 @@ pub fn charge_of(
     ensures { IfOk result (λ charge. IfOk text (λ read. reading (string_bytes (arc_value charge).configuration) ≡ reading (string_bytes read))) }
 {
     let page = status_page();
+    let mut board = Board::new(alloc, config.shards, &config.policies)?;
+    if !config.decisions.as_str().is_empty() {
+        board.keep_decisions(alloc)?;
+    }
     let charge = Charge {
         configuration: settings_in_force(alloc, text?.as_str())?,
         stop: StopMark::new(),
         over: StopMark::new(),
-        board: Board::new(alloc, config.shards, &config.policies)?,
+        board,
         loads: Arc::new(alloc, Loads::new(alloc, config.lanes as usize)?)?,
         admin: config.admin.try_clone(alloc)?,
         reopen: ReopenMark::new(),
+        reopen_decisions: ReopenMark::new(),
         output: config.output.try_clone(alloc)?,
         metrics_address: config.metrics.try_clone(alloc)?,
         stall: OutputStall::new(),

@@ -39,6 +39,8 @@ pub struct Charge {
     pub admin: Text,
     /// What asks for the output's file to be opened anew.
     pub reopen: ReopenMark,
+    /// What asks for the decisions' file to be opened anew.
+    pub reopen_decisions: ReopenMark,
     /// The path of the output's file, or nothing.
     pub output: Text,
     /// The address at which numbers alone are told, or nothing.
@@ -161,6 +163,7 @@ impl<'c, R: Clock + Wait> Admin for InCharge<'c, R> {
 
     fn reopen(&mut self) {
         self.charge.reopen.ask();
+        self.charge.reopen_decisions.ask();
         self.is_reopened = true;
     }
 

@@ -1,0 +1,78 @@
+//! What shards tell of their decisions, until it is written.
+use crossbeam_queue::ArrayQueue;
+use decision_line::{DecidedTrace, EvictedTrace, Said};
+use policy_eval::MOST_POLICIES;
+use std::alloc::{AllocError, Global};
+use std::sync::Wait;
+use std::sync::atomic::{AtomicU64, Ordering};
+
+/// At most this many decisions wait until they are written, some 12 MiB.
+const MOST_WAITING: usize = 65_536;
+
+/// What became of a trace.
+#[derive(Clone, Copy)]
+pub enum TraceNews {
+    /// It was decided, and the first so many policies said this.
+    Decided {
+        trace: DecidedTrace,
+        said: [Said; MOST_POLICIES],
+        asked: usize,
+    },
+    /// It left the full buffer undecided.
+    Evicted(EvictedTrace),
+}
+
+impl TraceNews {
+    /// A trace was decided, and the first policies said this.
+    pub fn decided(trace: DecidedTrace, told: &[Said]) -> TraceNews {
+        let mut said = [Said::NotAsked; MOST_POLICIES];
+        let mut asked = 0;
+        for one in told {
+            if asked < said.len() {
+                said[asked] = *one;
+                asked += 1;
+            }
+        }
+        TraceNews::Decided { trace, said, asked }
+    }
+}
+
+/// Decisions that shards told and nobody has taken yet.
+#[derive(Drop)]
+pub struct DecisionQueue {
+    waiting: ArrayQueue<TraceNews>,
+    lost: AtomicU64,
+}
+
+impl DecisionQueue {
+    /// Nothing was told.
+    pub fn new(alloc: Global) -> Result<Self, AllocError> {
+        Ok(DecisionQueue {
+            waiting: ArrayQueue::new(alloc, MOST_WAITING)?,
+            lost: AtomicU64::new(0),
+        })
+    }
+
+    /// Puts what became of a trace behind what waits, and counts it as lost where there is no room: a shard never waits
+    /// for its decisions to be written.
+    pub fn put<R: Wait>(&self, rt: &R, news: TraceNews) {
+        if self.waiting.push(rt, news).is_err() {
+            self.loses(1);
+        }
+    }
+
+    /// Takes what was told first, if anything waits.
+    pub fn take<R: Wait>(&self, rt: &R) -> Option<TraceNews> {
+        self.waiting.pop(rt)
+    }
+
+    /// Counts lines that are never written.
+    pub fn loses(&self, lines: u64) {
+        self.lost.fetch_add(lines, Ordering::Relaxed);
+    }
+
+    /// How many lines are never written.
+    pub fn lost(&self) -> u64 {
+        self.lost.load(Ordering::Relaxed)
+    }
+}

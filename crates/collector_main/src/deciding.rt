@@ -1,0 +1,62 @@
+//! Where the lines of decisions go.
+use crate::logging::say_fault;
+use collector_serve::{Charge, DecisionFiles, DecisionWriter, EventWriter};
+use pipeline::Machine;
+use std::alloc::{AllocError, Global};
+use std::fs::File;
+use std::io;
+use std::io::Write;
+use std::rt::Files;
+use std::sync::Arc;
+use tsc_config::Config;
+
+/// A mebibyte.
+const MEBIBYTE: u64 = 1_048_576;
+
+/// Starts what writes a line for each decided and each evicted trace, where the configuration names a file for them. An
+/// error, which is said: it can't be opened.
+pub fn opened_decisions<T: Files<File = File> + Machine + Copy + Send + 'static, E: Write + Drop>(
+    rt: &T,
+    alloc: Global,
+    config: &Config,
+    charge: &Arc<Charge, Global>,
+    events: &mut EventWriter<E>,
+) -> io::Result<DecisionWriter> {
+    let path = config.decisions.as_str();
+    if path.is_empty() {
+        return Ok(DecisionWriter::none());
+    }
+    match writer_of(rt, alloc, config, charge) {
+        Ok(writer) => Ok(writer),
+        Err(error) => {
+            say_fault(rt, alloc, events, "cannot_write", path, error);
+            Err(error)
+        }
+    }
+}
+
+/// Starts what writes the lines.
+fn writer_of<T: Files<File = File> + Machine + Copy + Send + 'static>(
+    rt: &T,
+    alloc: Global,
+    config: &Config,
+    charge: &Arc<Charge, Global>,
+) -> io::Result<DecisionWriter> {
+    let files = DecisionFiles {
+        path: String::from_str(alloc, config.decisions.as_str())?,
+        longest: config.decisions_max_mib.saturating_mul(MEBIBYTE),
+        // As many as of the output.
+        keep: u32::try_from(config.output_keep).unwrap_or(u32::MAX),
+        names: names_of(alloc, config)?,
+    };
+    DecisionWriter::start(rt, alloc, files, Arc::try_clone(charge)?)
+}
+
+/// The names of the policies, in order.
+fn names_of(alloc: Global, config: &Config) -> Result<Vec<String>, AllocError> {
+    let mut names = Vec::new(alloc);
+    for policy in config.policies.as_slice() {
+        names.push(String::from_str(alloc, policy.name.as_str())?)?;
+    }
+    Ok(names)
+}
