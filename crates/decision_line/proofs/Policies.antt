@@ -1,13 +1,15 @@
 -- The policies of a line, one after the other. For the contract of `put_policies`.
 use Rattle.std.proofs.Common.{◌≡◌, ◌<◌, ◌≤◌, ◌+◌, ◌++◌, ◌∷◌, ◌∙◌, ℕ, zero, suc, List, [], Bool, true, false, add-one, ap, arith, refl, sym, append_assoc, drop, drop-cons, get_or, length, map, nat_lt}
 use Rattle.std.proofs.lemmas.Bool.{lt-ltb}
-use Rattle.std.proofs.lemmas.List.{drop-drop, get_or-drop, get_or-map}
-use Rattle.std.specs.Prelude.{codes, fold}
+use Rattle.std.proofs.lemmas.List.{drop-drop, drop_all, get_or-drop}
+use Rattle.std.specs.Prelude.{Err, Ok, Result, codes, fold, take}
 use Rattle.json.specs.Print.{print_from}
 use Rattle.json.specs.Tree.{items_tokens, json_tokens}
 use Rattle.json.proofs.Printed.Tokens.{print_from-append}
 use Rattle.decision_line.specs.declared.decision.Said.{Said}
 use Rattle.decision_line.specs.declared.decision.Said.TheVariants.{NotAsked}
+use Rattle.decision_line.specs.Appending.{Appends}
+use Rattle.decision_line.proofs.Appended.{front-on}
 use Rattle.decision_line.specs.Line.{policy_items, policy_value}
 
 -- these policies and the bracket behind them; they are not the first ones
@@ -49,3 +51,15 @@ pub none-left : (later : Bool) (said : List Said) → policies_text later [] sai
 unfolding print_from
 none-left true said = refl
 none-left false said = refl
+
+-- all policies were appended, and the bracket behind them
+pub policies-end : {E : Type 0} (result : Result (Unit {0}) E) (names : List (List ℕ)) (said : List Said) (place : ℕ) (old text new : List ℕ) → length names ≤ place
+    → text ++ from_place names said place ≡ old ++ policies_text false names said → take (length old) text ≡ old → Appends result text new (codes "]")
+    → Appends result old new (policies_text false names said)
+policies-end (Ok done) names said place old text new past so kept h =
+    record {
+      whole = h.whole ∙ ap (λ (x : List ℕ). text ++ x) (sym (none-left (nat_lt 0 place) (drop place said)))
+          ∙ ap (λ (ns : List (List ℕ)). text ++ policies_text (nat_lt 0 place) ns (drop place said)) (sym (drop_all place names past)) ∙ so;
+      front = front-on old text new kept h.front;
+    }
+policies-end (Err fault) names said place old text new past so kept h = record { whole = tt; front = front-on old text new kept h.front }

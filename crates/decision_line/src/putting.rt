@@ -1,5 +1,5 @@
 //! Texts, numbers, ids and strings, appended.
-ghost use Rattle.std.specs.Prelude.{◌≡◌, ◌++◌, decimal, IfOk};
+ghost use Rattle.std.specs.Prelude.{◌≡◌, ◌++◌, decimal, length, IfOk};
 ghost use Rattle.std.specs.Bool.{OnTrue};
 ghost use Rattle.json.specs.Print.{escape, quoted};
 ghost use Rattle.span_ids.specs.Id.{id_text};
@@ -32,10 +32,18 @@ pub fn put_trace(line: &mut Vec<u8>, before: &str, trace: TraceId) -> Result<(),
     ensures { Appends result line.old.items line.new.items (before.now ++ escape (id_text trace)) }
 {
     put(line, before)?;
-    let bytes = trace.bytes();
+    let digits = digits(&trace.bytes());
+    line.extend_from_slice(&digits)
+}
+
+/// The digits of a trace's id, as they stand in a JSON string.
+fn digits(bytes: &[u8]) -> [u8; 32]
+    requires { length bytes.now ≡ 16 }
+    ensures { result ≡ escape (id_text bytes.now) }
+{
     let mut digits = [b'0'; 32];
     let _written = encode_to_slice(bytes, &mut digits);
-    line.extend_from_slice(&digits)
+    digits
 }
 
 /// Appends what stands in a JSON string for a text (RFC 8259, section 7), between two texts.
