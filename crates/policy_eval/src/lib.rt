@@ -27,4 +27,6 @@ pub use answer_list::{judge, verdict_given};
 pub use laws::{answers_are_by_the_node, asked_nodes_rise, decisions_keep_the_counts};
 pub use searches::Searches;
 pub use searching::searches_for;
-pub use verdict::{Evaluation, MOST_POLICIES, evaluate, evaluate_with_answers, evaluate_with_decider};
+pub use verdict::{
+    Evaluation, MOST_POLICIES, evaluate, evaluate_with_answers, evaluate_with_decider,
+};

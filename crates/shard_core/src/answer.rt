@@ -2,8 +2,8 @@
 ghost use Rattle.std.specs.Prelude.{◌≡◌};
 ghost use Rattle.shard_core.specs.Taking.{answer_to_late};
 
-use decision_cache::Remembered;
 use arrayvec::ArrayVec;
+use decision_cache::Remembered;
 use decision_line::DueCause;
 use otlp_types::Arrival;
 use policy_eval::{Answer, MOST_POLICIES};

@@ -347,13 +347,7 @@ impl Shard {
             verdict,
             decider,
             answers,
-        } = decide_on(
-            &self.policies,
-            episode,
-            now,
-            limiter,
-            &mut self.searches,
-        );
+        } = decide_on(&self.policies, episode, now, limiter, &mut self.searches);
         let spans = self.buffer.settle(mark, decision_wait, root_wait, verdict);
         Decision {
             decided: decided(verdict, spans),

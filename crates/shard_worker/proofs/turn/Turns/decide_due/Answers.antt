@@ -23,7 +23,7 @@ returns-then-not-settle_decided g c =
     let t = c.loop.self.limiter in
     let u = c.decide_with_answers-decision.new.limiter in
     let decides = without_decider A c.loop.self.shard c.decide_with_answers-decision.new.self did.decided did.decider t u
-        (without_answers A c.loop.self.shard c.decide_with_answers-decision.new.self did.decided did.decider did.answers.items t u told.decides) in
+    (without_answers A c.loop.self.shard c.decide_with_answers-decision.new.self did.decided did.decider did.answers.items t u told.decides) in
     record {
       done = λ first before e past dealt at.
           let now = inv.6 first before e past dealt at in
@@ -56,7 +56,7 @@ loop-preserved g c =
     let t = c.loop.self.limiter in
     let u = c.decide_with_answers-decision.new.limiter in
     let decides = without_decider A c.loop.self.shard c.decide_with_answers-decision.new.self did.decided did.decider t u
-        (without_answers A c.loop.self.shard c.decide_with_answers-decision.new.self did.decided did.decider did.answers.items t u told.decides) in (
+    (without_answers A c.loop.self.shard c.decide_with_answers-decision.new.self did.decided did.decider did.answers.items t u told.decides) in (
       told.ends ∙ inv.0,
       told.settings ∙ inv.1,
       inv.2,
