@@ -26,3 +26,8 @@ appends-then (Err fault) old between new first second e h = record { whole = tt;
 -- a text by another spelling of it
 pub appends-as : {E : Type 0} (result : Result (Unit {0}) E) (old new text other : List ℕ) → text ≡ other → Appends result old new text → Appends result old new other
 appends-as {E} result old new text other e h = subst (λ (x : List ℕ). Appends {E = E} result old new x) e h
+
+-- what holds anyway, holds at an `Ok`
+pub on-ok : {V E : Type 0} (result : Result V E) {P : Type 0} → P → OnOk result P
+on-ok (Ok value) h = h
+on-ok (Err fault) h = tt

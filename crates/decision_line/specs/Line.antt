@@ -1,6 +1,6 @@
 -- The lines of decisions: each is an object of JSON with no blanks (RFC 8259, section 4), and a line feed.
-use Rattle.std.specs.Prelude.{ℕ, List, [], ◌∷◌, ◌++◌, ◌-◌, Option, Some, None, option_and_then, slice_get, codes, decimal}
-use Rattle.json.specs.Json.{Json, null, number, string, array, object, Items, no_items, item, Members, no_members, member}
+use Rattle.std.specs.Prelude.{◌≡◌, ℕ, List, [], ◌∷◌, ◌++◌, ◌-◌, Option, Some, None, option_and_then, slice_get, codes, decimal}
+use Rattle.json.specs.Json.{Json, document, null, number, string, array, object, Items, no_items, item, Members, no_members, member}
 use Rattle.json.specs.Print.{print}
 use Rattle.json.specs.Tree.{json_tokens}
 use Rattle.span_ids.specs.Id.{id_text}
@@ -102,3 +102,7 @@ decided_line names said decision = line_of (decided_value names said decision)
 -- the line of an evicted trace
 abbrev pub evicted_line : EvictedTrace → List ℕ
 evicted_line evicted = line_of (evicted_value evicted)
+
+-- the value's text is JSON, and reads as this value again
+abbrev pub ReadsBack : Json → Type 0
+ReadsBack value = document (print (json_tokens value)) ≡ Some value

@@ -3,20 +3,20 @@ ghost use Rattle.std.specs.Prelude.{◌≡◌, ◌++◌, ◌<◌, codes, false, 
 ghost use Rattle.json.specs.Print.{print, print_from};
 ghost use Rattle.json.specs.Tree.{items_tokens, json_tokens};
 ghost use Rattle.decision_line.specs.Appending.{Appends};
-ghost use Rattle.decision_line.specs.Line.{decided_line, decider_value, evicted_line, policy_items, policy_value};
+ghost use Rattle.decision_line.specs.Line.{ReadsBack, decided_line, decided_value, decider_value, evicted_line, evicted_value, policy_items, policy_value};
 
 use crate::decision::{DecidedTrace, EvictedTrace, Said};
 use crate::members::{cause_member, said_member, verdict_member};
 use crate::putting::{put, put_escaped, put_number, put_trace};
 use std::alloc::AllocError;
 
-/// How many bytes a line takes at most, but for the names in it and for what it says of each policy.
+/// Room for a line but for its policies, in bytes: about 50 of them for the name of the policy that decided.
 const LINE_ROOM: usize = 256;
 
-/// How many bytes a line takes at most for each policy, but for its name.
+/// Room for a policy in a line but for its name, in bytes.
 const POLICY_ROOM: usize = 40;
 
-/// How many bytes a line takes whose names need no escapes.
+/// Room for a line whose names need no escapes, in bytes.
 fn room(names: &[String]) -> usize {
     let mut room = LINE_ROOM;
     for name in names {
@@ -74,8 +74,9 @@ fn append_decided(
     said: &[Said],
     decision: &DecidedTrace,
 ) -> Result<(), AllocError>
-    ensures { Appends result line.old.items line.new.items
+    ensures text { Appends result line.old.items line.new.items
         (decided_line (map string_bytes names.now) said.now decision.now) }
+    ensures back { OnOk result (ReadsBack (decided_value (map string_bytes names.now) said.now decision.now)) }
 {
     put_trace(line, "{\"traceId\":\"", decision.trace)?;
     put_number(line, "\",\"moment\":", decision.moment)?;
@@ -89,9 +90,9 @@ fn append_decided(
     put(line, "}\n")
 }
 
-/// Appends the line of a decided trace, with the names of all policies in their order, and what the first of them said,
-/// as far as `said` goes: the others were not asked. It takes memory once, but for names with escapes. `Err` where
-/// memory was refused: the bytes are as they were.
+/// Appends the line of a decided trace. `names` are those of all policies, in the configuration's order, and `said` what
+/// the first of them said: the others were not asked. It takes memory at most once, but for long names and those with
+/// escapes. `Err` where memory was refused: the bytes are as they were.
 pub fn put_decided(
     line: &mut Vec<u8>,
     names: &[String],
@@ -99,6 +100,7 @@ pub fn put_decided(
     decision: &DecidedTrace,
 ) -> Result<(), AllocError>
     ensures line { OnOk result (line.new.items ≡ line.old.items ++ decided_line (map string_bytes names.now) said.now decision.now) }
+    ensures back { OnOk result (ReadsBack (decided_value (map string_bytes names.now) said.now decision.now)) }
     ensures same { OnErr result (line.new.items ≡ line.old.items) }
 {
     line.reserve(room(names))?;
@@ -112,7 +114,8 @@ pub fn put_decided(
 
 /// Appends the line of an evicted trace. An `Err` may leave some of it behind the bytes that were there.
 fn append_evicted(line: &mut Vec<u8>, evicted: &EvictedTrace) -> Result<(), AllocError>
-    ensures { Appends result line.old.items line.new.items (evicted_line evicted.now) }
+    ensures text { Appends result line.old.items line.new.items (evicted_line evicted.now) }
+    ensures back { OnOk result (ReadsBack (evicted_value evicted.now)) }
 {
     put_trace(line, "{\"traceId\":\"", evicted.trace)?;
     put_number(line, "\",\"moment\":", evicted.moment)?;
@@ -120,10 +123,11 @@ fn append_evicted(line: &mut Vec<u8>, evicted: &EvictedTrace) -> Result<(), Allo
     put(line, "}\n")
 }
 
-/// Appends the line of an evicted trace. It takes memory once. `Err` where memory was refused: the bytes are as they
-/// were.
+/// Appends the line of an evicted trace. It takes memory at most once. `Err` where memory was refused: the bytes are as
+/// they were.
 pub fn put_evicted(line: &mut Vec<u8>, evicted: &EvictedTrace) -> Result<(), AllocError>
     ensures line { OnOk result (line.new.items ≡ line.old.items ++ evicted_line evicted.now) }
+    ensures back { OnOk result (ReadsBack (evicted_value evicted.now)) }
     ensures same { OnErr result (line.new.items ≡ line.old.items) }
 {
     line.reserve(LINE_ROOM)?;

@@ -1,5 +1,5 @@
 //! Texts, numbers, ids and strings, appended.
-ghost use Rattle.std.specs.Prelude.{◌≡◌, ◌++◌, decimal, length, IfOk};
+ghost use Rattle.std.specs.Prelude.{◌≡◌, ◌<◌, ◌^◌, ◌++◌, decimal, length, IfOk};
 ghost use Rattle.std.specs.Bool.{OnTrue};
 ghost use Rattle.json.specs.Print.{escape, quoted};
 ghost use Rattle.span_ids.specs.Id.{id_text};
@@ -20,7 +20,8 @@ pub fn put(line: &mut Vec<u8>, text: &str) -> Result<(), AllocError>
 
 /// Appends a number, behind a text.
 pub fn put_number(line: &mut Vec<u8>, before: &str, number: u64) -> Result<(), AllocError>
-    ensures { Appends result line.old.items line.new.items (before.now ++ decimal number) }
+    ensures text { Appends result line.old.items line.new.items (before.now ++ decimal number) }
+    ensures range { number < 2 ^ 64 }
 {
     put(line, before)?;
     let mut buffer = Buffer::new();
