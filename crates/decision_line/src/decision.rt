@@ -25,7 +25,7 @@ pub enum DueCause {
     Wait,
     /// Its root had come, and it had waited as long as traces wait then.
     RootWait,
-    /// It had as many spans as a trace has at most while it waits.
+    /// Its spans had more bytes than a trace may have (`maximum_trace_size_bytes`).
     Size,
     /// The collector closed.
     Close,

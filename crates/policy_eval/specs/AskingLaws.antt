@@ -1,5 +1,5 @@
 -- The counts of a limiter after a decision are those of the askings of all decisions.
-use Rattle.std.proofs.Common.{◌≡◌, ℕ, ◌+◌, ◌<◌, ◌≤◌, ◌==◌, Bool, true, false, ◌&&◌, ◌||◌, List, [], ◌∷◌, ◌++◌, map, reverse, length, refl, sym, ap, subst, ◌∙◌, arith, append_assoc}
+use Rattle.std.proofs.Common.{◌≡◌, ℕ, ◌+◌, ◌<◌, ◌≤◌, ◌==◌, Bool, true, false, ◌&&◌, ◌||◌, List, [], ◌∷◌, ◌++◌, map, reverse, refl, sym, ap, subst, ◌∙◌, arith, append_assoc}
 use Rattle.std.proofs.lemmas.Bool.Decides.{nat_tests}
 use Rattle.std.proofs.lemmas.List.{reverse-append}
 use Rattle.policy_tree.specs.declared.limiter_node.LimiterNode.{LimiterNode}
@@ -7,7 +7,7 @@ use Rattle.policy_tree.specs.Tree.{Policies, nodes_in, limiters}
 use Rattle.rate_budget.specs.Grant.{Asking, granted_after}
 use Rattle.rate_budget.specs.Budget.{limiter_counts, limiter_of, has_node, grants_at, after, AsksBudgets}
 use Rattle.rate_budget.specs.Rising.{Rises, rises-lower, numbers, limits_in-rise}
-use Rattle.rate_budget.specs.BudgetLaws.{counts-grant, counts-after, limits-law}
+use Rattle.rate_budget.specs.BudgetLaws.{counts-grant, counts-after}
 use Rattle.rate_budget.specs.declared.count.LimiterCount.{LimiterCount}
 use Rattle.otlp_types.specs.declared.arrival.Arrival.{Arrival}
 use Rattle.policy_eval.specs.Policies.{verdict, asked_nodes}

@@ -381,7 +381,8 @@ impl Shard {
 fn cause_of(episode: &Episode, finished: bool, mark: Moment, decision_wait: Moment) -> DueCause
     ensures { result ≡ cause_of finished mark decision_wait episode.now }
 {
-    if episode.is_too_big() {
+    let is_too_big = episode.is_too_big();
+    if is_too_big {
         DueCause::Size
     } else if finished {
         DueCause::Close

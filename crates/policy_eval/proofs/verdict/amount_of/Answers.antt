@@ -1,6 +1,6 @@
 -- What a limiter is asked for is something.
 -- For the clause `some` of `amount_of`.
-use Rattle.std.proofs.Common.{◌≡◌, ◌≢◌, ℕ, ◌<◌, List, [], ◌∷◌, length, sym, ap, subst, ◌∙◌, arith}
+use Rattle.std.proofs.Common.{◌≢◌, ℕ, ◌<◌, List, [], ◌∷◌, length, sym, subst, arith}
 use Rattle.otlp_types.specs.declared.arrival.Arrival.{Arrival}
 use Rattle.span_size.proofs.Totals.{some-size}
 use Rattle.policy_eval.proofs.verdict.amount_of.Goals as goal
