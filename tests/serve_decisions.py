@@ -12,7 +12,7 @@ from serve_output import ask_in_charge, lines_of
 POLICIES = [
     ("errors", 'type = "status_code", status_code = { status_codes = ["ERROR"] }'),
     ("slow", 'type = "latency", latency = { threshold_ms = 100 }'),
-    ("not \\"here\\"", 'type = "string_attribute", string_attribute = { key = "k", values = ["v"], invert_match = true }'),
+    ('not \\"here\\"', 'type = "string_attribute", string_attribute = { key = "k", values = ["v"], invert_match = true }'),
 ]
 THREE = "policies = [" + ", ".join(f'{{ name = "{name}", {rest} }}' for name, rest in POLICIES) + "]\n"
 NAMES = ["errors", "slow", 'not "here"']
