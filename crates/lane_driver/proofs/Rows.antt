@@ -1,8 +1,12 @@
--- Worked rows of when a lane takes a connection, and which leave: by computation.
+-- Worked rows of when a lane takes a connection, which leave, and what a look comes to: by computation.
 -- No clause needs them: they show the definitions, which code and contracts follow.
 use Rattle.std.proofs.Common.{◌≡◌, ◌∷◌, [], refl}
 use Rattle.std.specs.Prelude.{codes}
-use Rattle.lane_driver.specs.Looks.{since_put}
+use Rattle.std.specs.Prelude.{true, false, Some, None}
+use Rattle.lane_turns.specs.declared.table.Leaving.TheVariants.{ReadFailed, WriteFailed}
+use Rattle.lane_driver.specs.declared.link.Phase.TheVariants.{Serving, Closing, Lingering}
+use Rattle.lane_driver.specs.declared.link.Looked.TheVariants.{Waits, Over, Leaves, HasTurn}
+use Rattle.lane_driver.specs.Looks.{looked, since_put}
 use Rattle.lane_driver.specs.Taking.{leaves_by, taken_from}
 
 -- with the fewest, an eighth more, three more than that, and many more
@@ -15,3 +19,19 @@ leaving = refl
 -- more is put behind a rest, and where nothing was left
 standing_still : since_put (codes "ab") 3 7 ∷ since_put [] 3 7 ∷ [] ≡ 3 ∷ 7 ∷ []
 standing_still = refl
+
+-- between requests, with all sent: before its time is over, then, and once the mark to stop is set
+idle : looked Serving true true 10 9 None ∷ looked Serving true true 10 10 None ∷ looked Serving true true 10 9 (Some 50) ∷ [] ≡ Waits 10 ∷ HasTurn ∷ HasTurn ∷ []
+idle = refl
+
+-- between requests, with an answer to be sent: while the collector closes, once writes stood still, and once it is cut
+idle_unsent : looked Serving true false 10 9 (Some 50) ∷ looked Serving true false 10 11 None ∷ looked Serving true false 10 51 (Some 50) ∷ [] ≡ Waits 10 ∷ Leaves WriteFailed ∷ Leaves ReadFailed ∷ []
+idle_unsent = refl
+
+-- within a request: once its time is over, as it is cut, and with answers unsent
+under_way : looked Serving false true 10 12 None ∷ looked Serving false true 10 9 (Some 9) ∷ looked Serving false false 10 10 None ∷ [] ≡ HasTurn ∷ Leaves ReadFailed ∷ Leaves WriteFailed ∷ []
+under_way = refl
+
+-- behind its last answer: while the collector closes, once its time is over, as it is cut, and while it lingers
+last : looked Closing false false 10 9 (Some 50) ∷ looked Closing true true 10 10 None ∷ looked (Lingering 3) true true 10 9 (Some 8) ∷ looked (Lingering 3) true true 10 9 None ∷ [] ≡ Waits 10 ∷ Over ∷ Over ∷ Waits 10 ∷ []
+last = refl

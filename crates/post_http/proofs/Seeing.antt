@@ -121,12 +121,12 @@ end_in Reads.Closed c new input spans consumed count h = let e : End count ≡ C
 end_in (Reads.Failed f) c new input spans consumed count h = absurd h
 
 pub body_end : (start : Client) (bytes so_far : List ℕ) (c new : Client) (input : List ℕ) (spans : List HeaderSpan) (read : Progress ResponseSpans) (count : ℕ) → read.event ≡ End count → SeesBody start bytes so_far c input
-    → ClientReads c input spans new read → SeesAll start bytes so_far
+    → ClientReads c input spans new read → (all : SeesAll start bytes so_far) × (all.1 ≡ drop read.consumed input)
 body_end start bytes so_far c new input spans read count e sees h =
     let rest : List ℕ = drop read.consumed input in
     let ends = end_in c.reading c new input spans read.consumed count (at_event c new input spans read (End count) e h) in
     let t = reads_event c new input spans read (End count) nothing rest e h (stops new rest ends) in
-    (with_body so_far (observe c.method input spans (End count) nothing), rest, sees (observe c.method input spans (End count) nothing) rest t, refl, sym (append-nil so_far))
+    ((with_body so_far (observe c.method input spans (End count) nothing), rest, sees (observe c.method input spans (End count) nothing) rest t, refl, sym (append-nil so_far)), refl)
 
 -- what ends where the peer closes is a body that runs until then, of which nothing is left
 abbrev Closes : (new : Client) (left : List ℕ) → Type 0

@@ -1,5 +1,5 @@
 -- What bytes hold that came behind a request, by `http1`'s client.
-use Rattle.std.specs.Prelude.{◌≡◌, ℕ, ◌≤◌, List, [], ◌∷◌, ◌++◌, length, map, drop, Option, IsFalse}
+use Rattle.std.specs.Prelude.{◌≡◌, ℕ, ◌≤◌, List, [], ◌∷◌, ◌++◌, length, map, drop, true, Option, IsFalse}
 use Rattle.http1.specs.declared.client.Client.{Client}
 use Rattle.http1.specs.declared.conn.Limits.{Limits}
 use Rattle.http1.specs.declared.framing.MethodKind.{MethodKind}
@@ -86,11 +86,11 @@ HeadsIn bytes NoHead = Unit {0}
 HeadsIn bytes BadHead = Unit {0}
 HeadsIn bytes TooMany = HasTooManyHeads bytes
 
--- what was found behind a head
+-- what was found behind a head; the connection is kept only where nothing came behind the answer
 abbrev pub BodyIn : Headed → (bytes : List ℕ) → FoundResponse → Type 0
 BodyIn h bytes (Whole a) =
     (later : Seen) × (rest : List ℕ) × Trace h.client (drop h.at bytes) later rest × (later.responses ≡ [])
-    × (a.body.items ≡ later.body.bytes) × (a.status ≡ h.status) × (a.retry_after ≡ h.retry_after)
+    × (a.body.items ≡ later.body.bytes) × (a.status ≡ h.status) × (a.retry_after ≡ h.retry_after) × (a.keeps ≡ true → rest ≡ [])
 BodyIn h bytes More = Unit {0}
 BodyIn h bytes Broken = Unit {0}
 
