@@ -87,24 +87,50 @@ fn write_lines<R: Wait + Clock + Files<File = File>>(
         return;
     };
     let place = FilesPlace::new(rt, alloc, path, keep);
-    let Ok(output) = OutputFile::new(place, longest, &charge.reopen_decisions) else {
-        return;
-    };
-    let mut output = output;
+    match OutputFile::new(place, longest, &charge.reopen_decisions) {
+        Ok(output) => {
+            let mut output = output;
+            write_until_over(rt, alloc, charge, queue, &names, &mut output);
+        }
+        // It could be opened a moment ago. What is told from then on finds no room, and counts as lost.
+        Err(_) => {}
+    }
+    lose_all(rt, queue);
+}
+
+/// Writes what waits again and again, until the run is over and nothing waits, or can be written.
+fn write_until_over<R: Wait + Clock, W: Write>(
+    rt: &R,
+    alloc: Global,
+    charge: &Charge,
+    queue: &DecisionQueue,
+    names: &[String],
+    output: &mut W,
+) {
     let mut lines = LinesToWrite::new(alloc);
     for _ in rt.forever() {
         // Asked before lines are made, so that what was told before the end is written.
         let is_over = charge.over.is_set();
-        let has_more = lines.fill(rt, queue, &names);
-        lines.write_to(&mut output);
-        if is_over && !has_more {
+        let may_wait = lines.fill(rt, queue, names);
+        let goes_on = lines.write_to(output) && may_wait;
+        if is_over && !goes_on {
             // What still can't be written is lost with the end.
             queue.loses(lines.left());
             return;
         }
-        if !has_more {
+        if !goes_on {
             thread::sleep(rt, Duration::from_millis(PAUSE));
         }
+    }
+}
+
+/// Counts all that waits as lost.
+fn lose_all<R: Wait>(rt: &R, queue: &DecisionQueue) {
+    for _ in rt.forever() {
+        if queue.take(rt).is_none() {
+            return;
+        }
+        queue.loses(1);
     }
 }
 
@@ -124,12 +150,11 @@ impl LinesToWrite {
         }
     }
 
-    /// Makes lines of what waits, and says whether some may wait still.
+    /// Makes lines of what waits, until there are enough to be written, and says whether some may wait still.
     fn fill<R: Wait>(&mut self, rt: &R, queue: &DecisionQueue, names: &[String]) -> bool {
         for _ in rt.forever() {
             if self.text.len() >= MOST_BYTES {
-                // Lines that can't be written hold up no end: nothing further is made then.
-                return self.written > 0;
+                return true;
             }
             let Some(news) = queue.take(rt) else {
                 return false;
@@ -152,17 +177,18 @@ impl LinesToWrite {
         }
     }
 
-    /// Writes what is made, as far as the output takes it: the rest is written later, so that no line is torn.
-    fn write_to<W: Write>(&mut self, output: &mut W) {
+    /// Writes what is made, and says whether the output took all of it: a rest is written later, so that no line is torn.
+    fn write_to<W: Write>(&mut self, output: &mut W) -> bool {
         while self.written < self.text.len() {
             match output.write(&self.text[self.written..]) {
                 Ok(n) if n > 0 => self.written = self.written.saturating_add(n),
                 Err(error) if error.kind() == ErrorKind::Interrupted => {}
-                _ => return,
+                _ => return false,
             }
         }
         self.text.clear();
         self.written = 0;
+        true
     }
 
     /// How many lines aren't written whole.

@@ -115,7 +115,7 @@ fn tell_trace<W: Watcher, R: Wait>(
         cause: due.cause,
         decider: decision.decider,
     };
-    watcher.trace_decided(rt, &told, &said[..asked]);
+    watcher.trace_decided(rt, &told, &said[..asked.min(said.len())]);
 }
 
 /// What a policy said, by its answer.

@@ -1,9 +1,14 @@
 -- What is due is decided, one after the other.
 -- For the clauses of `Turns::decide_due`.
-use Rattle.std.proofs.Common.{◌∷◌, refl, ap, ◌∙◌}
+use Rattle.std.proofs.Common.{◌≡◌, ◌∷◌, true, refl, sym, ap, subst, ◌∙◌}
 use Rattle.std.specs.List.{list_all}
-use Rattle.journal_theory.specs.Journal.{Journal}
-use Rattle.shard_core.specs.Taking.{dealt_after}
+use Rattle.policy_tree.specs.Tree.{limiters}
+use Rattle.policy_tree.specs.Meaning.{meaning}
+use Rattle.policy_eval.specs.Meaning.{knows}
+use Rattle.journal_theory.specs.Journal.{Journal, IsAnswered}
+use Rattle.journal_theory.specs.Fate.{effect, effect_dealt}
+use Rattle.shard_core.specs.Held.{Held, StandsFor, settings}
+use Rattle.shard_core.specs.Taking.{DecidesWithAnswers, dealt_after}
 use Rattle.shard_core.proofs.Deciding.{without_answers, without_decider}
 use Rattle.shard_worker.proofs.Nodes.{knows_kept}
 use Rattle.shard_worker.proofs.Moves.{given_after, at_decided, done_decided}
@@ -22,29 +27,38 @@ returns-then-not-settle_decided g c =
     let A = g.L.Limiter.asks in
     let t = c.loop.self.limiter in
     let u = c.decide_with_answers-decision.new.limiter in
-    let decides = without_decider A c.loop.self.shard c.decide_with_answers-decision.new.self did.decided did.decider t u
-    (without_answers A c.loop.self.shard c.decide_with_answers-decision.new.self did.decided did.decider did.answers.items t u told.decides) in
+    let old = c.loop.self.shard in
+    let new = c.decide_with_answers-decision.new.self in
+    let same : c.next_told-due.new.shard ≡ old = c.next_told-due.ensures in
+    let D = λ (x : Held). DecidesWithAnswers A x new did.decided did.decider did.answers.items t u in
+    let decides = without_decider A old new did.decided did.decider t u (without_answers A old new did.decided did.decider did.answers.items t u (subst D same told.decides)) in
+    let told_settings = told.settings ∙ ap settings same in
+    let told_ends = told.ends ∙ ap (λ (x : Held). x.standing.ends) same in
+    let told_policies = told.policies ∙ ap (λ (x : Held). x.policies) same in
     record {
       done = λ first before e past dealt at.
           let now = inv.6 first before e past dealt at in
           let P : Journal = record e { answers = now.1 } ∷ past in
-          let here = at_decided A first t u before c.loop.self.shard c.decide_with_answers-decision.new.self c.loop.self.desk.sender.items c.settle_decided.new.desk.sender.items c.loop.self.desk.tally c.settle_decided.new.desk.tally e past now.1 now.0 did.decided now.2
-          decides told.settings (ap (λ x. x.items) settled.takes.0) settled.takes.1 in (
+          let here = at_decided A first t u before old new c.loop.self.desk.sender.items c.settle_decided.new.desk.sender.items c.loop.self.desk.tally c.settle_decided.new.desk.tally e past now.1 now.0 did.decided now.2
+          decides told_settings (ap (λ x. x.items) settled.takes.0) settled.takes.1 in (
             now.1,
-            done_decided A first u before c.loop.self.shard c.decide_with_answers-decision.new.self c.settle_decided.new.desk.sender.items c.settle_decided.new.desk.tally e past now.1 decides.0 now.0 did.decided none told.settings
-                (told.all_dealt none P now.0 now.2.stands) (told.answered none P now.0 now.2.stands) here,
+            done_decided A first u before old new c.settle_decided.new.desk.sender.items c.settle_decided.new.desk.tally e past now.1 decides.0 now.0 did.decided none told_settings
+                (subst (λ (x : Held). StandsFor x P now.0 → effect_dealt (settings x) P now.0 ≡ effect (settings x) P) same (told.all_dealt none P now.0) now.2.stands)
+                (subst (λ (x : Held). StandsFor x P now.0 → IsAnswered (settings x) P) same (told.answered none P now.0) now.2.stands) here,
           );
       nothing_due = told.nothing none;
-      finished = ap (λ ends. list_all (λ b. b) ends) (told.ends ∙ inv.0);
-      ends = told.ends ∙ inv.0;
-      settings = told.settings ∙ inv.1;
-      nodes = knows_kept (g.L.Limiter.has_node t) (g.L.Limiter.has_node u) c.loop.self.shard.policies c.decide_with_answers-decision.new.self.policies told.keeps told.policies inv.4;
+      finished = ap (λ ends. list_all (λ b. b) ends) (told_ends ∙ inv.0);
+      ends = told_ends ∙ inv.0;
+      settings = told_settings ∙ inv.1;
+      nodes = knows_kept (g.L.Limiter.has_node t) (g.L.Limiter.has_node u) old.policies new.policies told.keeps told_policies inv.4;
       keeps = λ node. told.keeps node ∙ inv.5 node;
       same = (inv.2, ap (λ x. x.queue) settled.takes.0 ∙ inv.3);
     }
 
 pub decide_with_answers-decision-requires : goal.decide_with_answers-decision-requires
-decide_with_answers-decision-requires g c = record { nodes = c.loop.invariant.4 }
+decide_with_answers-decision-requires g c =
+    let same : c.next_told-due.new.shard ≡ c.loop.self.shard = c.next_told-due.ensures in
+    record { nodes = subst (λ (x : Held). knows (g.L.Limiter.has_node c.loop.self.limiter) (limiters (meaning x.policies)) ≡ true) (sym same) c.loop.invariant.4 }
 
 pub loop-preserved : goal.loop-preserved
 loop-preserved g c =
@@ -55,19 +69,25 @@ loop-preserved g c =
     let A = g.L.Limiter.asks in
     let t = c.loop.self.limiter in
     let u = c.decide_with_answers-decision.new.limiter in
-    let decides = without_decider A c.loop.self.shard c.decide_with_answers-decision.new.self did.decided did.decider t u
-    (without_answers A c.loop.self.shard c.decide_with_answers-decision.new.self did.decided did.decider did.answers.items t u told.decides) in (
-      told.ends ∙ inv.0,
-      told.settings ∙ inv.1,
+    let old = c.loop.self.shard in
+    let new = c.decide_with_answers-decision.new.self in
+    let same : c.next_told-due.new.shard ≡ old = c.next_told-due.ensures in
+    let D = λ (x : Held). DecidesWithAnswers A x new did.decided did.decider did.answers.items t u in
+    let decides = without_decider A old new did.decided did.decider t u (without_answers A old new did.decided did.decider did.answers.items t u (subst D same told.decides)) in
+    let told_settings = told.settings ∙ ap settings same in
+    let told_ends = told.ends ∙ ap (λ (x : Held). x.standing.ends) same in
+    let told_policies = told.policies ∙ ap (λ (x : Held). x.policies) same in (
+      told_ends ∙ inv.0,
+      told_settings ∙ inv.1,
       inv.2,
       ap (λ x. x.queue) settled.takes.0 ∙ inv.3,
-      knows_kept (g.L.Limiter.has_node t) (g.L.Limiter.has_node u) c.loop.self.shard.policies c.decide_with_answers-decision.new.self.policies told.keeps told.policies inv.4,
+      knows_kept (g.L.Limiter.has_node t) (g.L.Limiter.has_node u) old.policies new.policies told.keeps told_policies inv.4,
       λ node. told.keeps node ∙ inv.5 node,
       λ first before e past dealt at.
           let now = inv.6 first before e past dealt at in (
             dealt_after did.decided now.0,
             given_after did.decided now.1 decides.0,
-            at_decided A first t u before c.loop.self.shard c.decide_with_answers-decision.new.self c.loop.self.desk.sender.items c.settle_decided.new.desk.sender.items c.loop.self.desk.tally c.settle_decided.new.desk.tally e past now.1 now.0 did.decided now.2
-                decides told.settings (ap (λ x. x.items) settled.takes.0) settled.takes.1,
+            at_decided A first t u before old new c.loop.self.desk.sender.items c.settle_decided.new.desk.sender.items c.loop.self.desk.tally c.settle_decided.new.desk.tally e past now.1 now.0 did.decided now.2
+                decides told_settings (ap (λ x. x.items) settled.takes.0) settled.takes.1,
           ),
     )
