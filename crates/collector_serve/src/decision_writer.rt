@@ -19,6 +19,9 @@ const PAUSE: u64 = 100;
 /// Once so many bytes of lines are made they are written before further ones are made.
 const MOST_BYTES: usize = 262_144;
 
+/// The most writes in a row.
+const MOST_WRITES: u32 = 1_024;
+
 /// Where lines of decisions go, and what policies are called in them.
 #[derive(Drop)]
 pub struct DecisionFiles {
@@ -92,10 +95,21 @@ fn write_lines<R: Wait + Clock + Files<File = File>>(
             let mut output = output;
             write_until_over(rt, alloc, charge, queue, &names, &mut output);
         }
-        // It could be opened a moment ago. What is told from then on finds no room, and counts as lost.
-        Err(_) => {}
+        // It could be opened a moment ago.
+        Err(_) => lose_until_over(rt, charge, queue),
     }
     lose_all(rt, queue);
+}
+
+/// Counts what is told as lost, until the run is over.
+fn lose_until_over<R: Wait>(rt: &R, charge: &Charge, queue: &DecisionQueue) {
+    for _ in rt.forever() {
+        if charge.over.is_set() {
+            return;
+        }
+        lose_all(rt, queue);
+        thread::sleep(rt, Duration::from_millis(PAUSE));
+    }
 }
 
 /// Writes what waits again and again, until the run is over and nothing waits, or can be written.
@@ -179,16 +193,20 @@ impl LinesToWrite {
 
     /// Writes what is made, and says whether the output took all of it: a rest is written later, so that no line is torn.
     fn write_to<W: Write>(&mut self, output: &mut W) -> bool {
-        while self.written < self.text.len() {
-            match output.write(&self.text[self.written..]) {
+        for _ in 0..MOST_WRITES {
+            let left = &self.text[self.written.min(self.text.len())..];
+            if left.is_empty() {
+                self.text.clear();
+                self.written = 0;
+                return true;
+            }
+            match output.write(left) {
                 Ok(n) if n > 0 => self.written = self.written.saturating_add(n),
                 Err(error) if error.kind() == ErrorKind::Interrupted => {}
                 _ => return false,
             }
         }
-        self.text.clear();
-        self.written = 0;
-        true
+        false
     }
 
     /// How many lines aren't written whole.
