@@ -102,7 +102,7 @@ fn write_lines<R: Wait + Clock + Files<File = File>>(
 }
 
 /// Counts what is told as lost, until the run is over.
-fn lose_until_over<R: Wait>(rt: &R, charge: &Charge, queue: &DecisionQueue) {
+fn lose_until_over<R: Wait + Clock>(rt: &R, charge: &Charge, queue: &DecisionQueue) {
     for _ in rt.forever() {
         if charge.over.is_set() {
             return;
