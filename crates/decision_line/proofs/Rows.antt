@@ -18,7 +18,7 @@ second_of_three : decided_line (codes "errors" ∷ codes "slow" ∷ codes "rest"
 unfolding digits encode_with escape_byte print_from
 second_of_three = refl
 
--- none decided; the clock went back, and more is said than there are policies
+-- none decided; the first span came later, and more is said than there are policies
 none_decided : decided_line (codes "a" ∷ codes "b" ∷ codes "c" ∷ []) (InvertedSampled ∷ InvertedNotSampled ∷ NotAsked ∷ Dropped ∷ [])
     (record { trace = 0 ∷ 1 ∷ 2 ∷ 3 ∷ 4 ∷ 5 ∷ 6 ∷ 7 ∷ 8 ∷ 9 ∷ 10 ∷ 11 ∷ 12 ∷ 13 ∷ 14 ∷ 15 ∷ []; moment = 1000; opened = 1001; spans = 7; verdict = verdict.NotSampled; cause = RootWait; decider = None })
     ≡ codes "{\"traceId\":\"000102030405060708090a0b0c0d0e0f\",\"moment\":1000,\"verdict\":\"notSampled\",\"policy\":null,\"by\":\"rootWait\",\"spans\":7,\"waitedMs\":0,"

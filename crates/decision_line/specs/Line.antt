@@ -63,7 +63,7 @@ policy_items [] said = no_items
 policy_items (name ∷ names) [] = item (policy_value name NotAsked) (policy_items names [])
 policy_items (name ∷ names) (first ∷ said) = item (policy_value name first) (policy_items names said)
 
--- a decided trace; it has waited for no time where its first span came later, as the clock went back
+-- a decided trace; it has waited 0 where its first span came later
 abbrev pub decided_value : (names : List (List ℕ)) → List Said → DecidedTrace → Json
 decided_value names said decision =
     object

@@ -11,6 +11,7 @@
 mod decision;
 mod line;
 mod members;
+mod plain;
 mod putting;
 
 pub use decision::{DecidedTrace, DueCause, EvictedTrace, Said};

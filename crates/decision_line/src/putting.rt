@@ -1,10 +1,10 @@
 //! Texts, numbers, ids and strings, appended.
 ghost use Rattle.std.specs.Prelude.{◌≡◌, ◌<◌, ◌^◌, ◌++◌, decimal, length, IfOk};
-ghost use Rattle.std.specs.Bool.{OnTrue};
 ghost use Rattle.json.specs.Print.{escape, quoted};
 ghost use Rattle.span_ids.specs.Id.{id_text};
 ghost use Rattle.decision_line.specs.Appending.{Appends};
 
+use crate::plain::is_plain;
 use hex::encode_to_slice;
 use itoa::Buffer;
 use json::Writer;
@@ -63,18 +63,6 @@ pub fn put_escaped(
         put_escapes(line, text)?;
     }
     put(line, after)
-}
-
-/// Whether no byte of a text has an escape.
-fn is_plain(text: &[u8]) -> bool
-    ensures { OnTrue result (escape text.now ≡ text.now) }
-{
-    for byte in text {
-        if *byte == b'"' || *byte == b'\\' || *byte < 0x20 {
-            return false;
-        }
-    }
-    true
 }
 
 /// A text as a JSON string.

@@ -1,6 +1,6 @@
-use Rattle.std.proofs.Common.{◌≡◌, ◌<◌, ◌≤◌, ◌++◌, ◌∙◌, ℕ, List, ap, arith, get_or, length, map, rules, string_bytes, sym, Global, String}
+use Rattle.std.proofs.Common.{◌≡◌, ◌<◌, ◌≤◌, ◌++◌, ◌∙◌, ℕ, List, ap, arith, get_or, length, map, string_bytes, sym, Global, String}
 use Rattle.std.proofs.lemmas.List.{get_or-map, length-map}
-use Rattle.std.specs.Prelude.{nat_lt}
+use Rattle.std.specs.Prelude.{Option, nat_lt, unwrap_or}
 use Rattle.json.specs.Print.{print_from}
 use Rattle.json.specs.Tree.{json_tokens}
 use Rattle.decision_line.specs.declared.decision.Said.{Said}
@@ -24,7 +24,8 @@ loop-place-preserved c =
     let name = c.as_str.result.now in
     let some : place < length names = omega (arith, c.loop-place-test.true, length-map c.args.names.now string_bytes) in
     let is : name ≡ get_or names place name = is-named c.args.names.now place c.index-names-place.result name c.as_str.ensures.value c.loop-place-test.true c.index-names-place.is in
-    let told : c.unwrap_or-said.result ≡ get_or c.args.said.now place NotAsked = search rules in (
+    let told : c.unwrap_or-said.result ≡ get_or c.args.said.now place NotAsked
+    = c.unwrap_or-said.ensures ∙ ap (λ (o : Option Said). unwrap_or o NotAsked) c.copied.ensures ∙ c.get.ensures.lookup.4 (omega arith) NotAsked in (
       policies-next names c.args.said.now place name text c.put_policy.new.line.items _ some is c.loop-place.invariant.0
           (c.in_ok-put_policy.ensures.whole ∙ ap (λ (s : Said). text ++ print_from (nat_lt 0 place) (json_tokens (policy_value name s))) told),
       front-on c.args.line.now.items text c.put_policy.new.line.items c.loop-place.invariant.1 c.in_ok-put_policy.ensures.front,

@@ -1,5 +1,5 @@
 use Rattle.json.specs.Written.{PlainBetween}
-use Rattle.decision_line.proofs.putting.is_plain.Given as goal
+use Rattle.decision_line.proofs.plain.is_few_plain.Given as goal
 
 -- no byte so far has an escape
 abbrev pub invariant-loop-byte : goal.invariant-loop-byte
