@@ -117,6 +117,22 @@ def rotated(start):
         want("the traces, in order", [int(it["traceId"], 16) for it in told], list(range(1, 901)))
 
 
+def all_at_the_close(start):
+    """Thousands of traces are decided at once as the collector closes: each has its line, though they are more than are made at a time."""
+    with tempfile.TemporaryDirectory() as folder:
+        path = os.path.join(folder, "decisions.jsonl")
+        collector = start(f'decisions = "{path}"\nshards = 2\nnum_traces = 50000\ndecision_wait_ms = 3600000\n' + THREE)
+        client = collector.client()
+        for first in range(1, 6001, 200):
+            client.send(post(body_of([span for number in range(first, first + 200) for span in trace(number, number % 2 == 0, False, False)])))
+            want("the answer", client.answer()[::2], (200, "{}"))
+        client.close()
+        collector.close()
+        told = read(path)
+        want("the traces", sorted(int(it["traceId"], 16) for it in told), list(range(1, 6001)))
+        want("what they say", {(it["by"], it["policy"], int(it["traceId"], 16) % 2) for it in told}, {("close", "errors", 0), ("close", None, 1)})
+
+
 def decisions_cannot_be_written(start):
     """A file that can't be opened is named, and the program ends at once."""
     with tempfile.TemporaryDirectory() as folder:
@@ -143,4 +159,4 @@ def decisions_of_a_full_disk(start):
     want("what is said at the end", ["lines=20" in it for it in said], [True])
 
 
-CHECKS = [each_decided, each_cause, rotated, decisions_cannot_be_written, decisions_of_a_full_disk]
+CHECKS = [each_decided, each_cause, rotated, all_at_the_close, decisions_cannot_be_written, decisions_of_a_full_disk]
