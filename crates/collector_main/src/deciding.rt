@@ -1,6 +1,6 @@
 //! Where the lines of decisions go.
 use crate::logging::say_fault;
-use collector_serve::{Charge, DecisionFiles, DecisionWriter, EventWriter};
+use collector_serve::{Charge, DecisionFile, DecisionWriter, EventWriter};
 use pipeline::Machine;
 use std::alloc::{AllocError, Global};
 use std::fs::File;
@@ -42,14 +42,13 @@ fn writer_of<T: Files<File = File> + Machine + Copy + Send + 'static>(
     config: &Config,
     charge: &Arc<Charge, Global>,
 ) -> io::Result<DecisionWriter> {
-    let files = DecisionFiles {
-        path: String::from_str(alloc, config.decisions.as_str())?,
-        longest: config.decisions_max_mib.saturating_mul(MEBIBYTE),
-        // As many as of the output.
-        keep: u32::try_from(config.output_keep).unwrap_or(u32::MAX),
-        names: names_of(alloc, config)?,
-    };
-    DecisionWriter::start(rt, alloc, files, Arc::try_clone(charge)?)
+    let path = String::from_str(alloc, config.decisions.as_str())?;
+    // As many as of the output.
+    let keep = u32::try_from(config.output_keep).unwrap_or(u32::MAX);
+    let longest = config.decisions_max_mib.saturating_mul(MEBIBYTE);
+    let file = DecisionFile::open(rt, alloc, path, keep, longest, Arc::try_clone(charge)?)?;
+    let names = names_of(alloc, config)?;
+    DecisionWriter::start(rt, alloc, file, names, Arc::try_clone(charge)?)
 }
 
 /// The names of the policies, in order.

@@ -3,11 +3,8 @@ use crate::charge::Charge;
 use collector_board::{DecisionQueue, TraceNews};
 use decision_line::{put_decided, put_evicted};
 use http_lane::HasStopMark;
-use output_file::{FilesPlace, OutputFile, OutputPlace};
 use std::alloc::{AllocError, Global};
-use std::fs::File;
 use std::io::{ErrorKind, Write};
-use std::rt::Files;
 use std::sync::{Arc, Wait};
 use std::thread::{JoinHandle, Threads};
 use std::time::{Clock, Duration};
@@ -22,18 +19,6 @@ const MOST_BYTES: usize = 262_144;
 /// The most writes in a row.
 const MOST_WRITES: u32 = 1_024;
 
-/// Where lines of decisions go, and what policies are called in them.
-#[derive(Drop)]
-pub struct DecisionFiles {
-    pub path: String,
-    /// A new file is begun once one has so many bytes, or never: 0.
-    pub longest: u64,
-    /// So many files are kept that were left.
-    pub keep: u32,
-    /// The names of the policies, in order.
-    pub names: Vec<String>,
-}
-
 /// Writes a line for each decided and each evicted trace, until the run is over and none waits. `None`: none is written.
 #[derive(Drop)]
 pub struct DecisionWriter {
@@ -46,19 +31,21 @@ impl DecisionWriter {
         DecisionWriter { thread: None }
     }
 
-    /// Starts the thread. An error: its file can't be opened, or no thread started.
-    pub fn start<R: Threads + Wait + Clock + Files<File = File> + Copy + Send + 'static>(
+    /// Starts the thread, by which policies have these names, in order. An error: none is started.
+    pub fn start<
+        W: Write + Send + Drop + 'static,
+        R: Threads + Wait + Clock + Copy + Send + 'static,
+    >(
         rt: &R,
         alloc: Global,
-        files: DecisionFiles,
+        output: W,
+        names: Vec<String>,
         charge: Arc<Charge, Global>,
     ) -> io::Result<Self> {
-        // Opened once before, so that a path at which nothing can be opened is told at the start (D-385).
-        let path = String::from_str(alloc, files.path.as_str())?;
-        let opened = FilesPlace::new(rt, alloc, path, files.keep).open()?;
-        drop(opened);
         let own = *rt;
-        let thread = thread::spawn(rt, move || write_lines(&own, alloc, files, &charge))?;
+        let thread = thread::spawn(rt, move || {
+            write_lines(&own, alloc, output, names, &charge)
+        })?;
         Ok(DecisionWriter {
             thread: Some(thread),
         })
@@ -73,42 +60,18 @@ impl DecisionWriter {
     }
 }
 
-/// Writes what waits again and again, until the run is over.
-fn write_lines<R: Wait + Clock + Files<File = File>>(
+/// Writes what waits, where something may, until the run is over.
+fn write_lines<W: Write + Drop, R: Wait + Clock>(
     rt: &R,
     alloc: Global,
-    files: DecisionFiles,
+    output: W,
+    names: Vec<String>,
     charge: &Charge,
 ) {
-    let DecisionFiles {
-        path,
-        longest,
-        keep,
-        names,
-    } = files;
-    let Some(queue) = charge.board.decision_queue() else {
-        return;
-    };
-    let place = FilesPlace::new(rt, alloc, path, keep);
-    match OutputFile::new(place, longest, &charge.reopen_decisions) {
-        Ok(output) => {
-            let mut output = output;
-            write_until_over(rt, alloc, charge, queue, &names, &mut output);
-        }
-        // It could be opened a moment ago.
-        Err(_) => lose_until_over(rt, charge, queue),
-    }
-    lose_all(rt, queue);
-}
-
-/// Counts what is told as lost, until the run is over.
-fn lose_until_over<R: Wait + Clock>(rt: &R, charge: &Charge, queue: &DecisionQueue) {
-    for _ in rt.forever() {
-        if charge.over.is_set() {
-            return;
-        }
+    let mut output = output;
+    if let Some(queue) = charge.board.decision_queue() {
+        write_until_over(rt, alloc, charge, queue, &names, &mut output);
         lose_all(rt, queue);
-        thread::sleep(rt, Duration::from_millis(PAUSE));
     }
 }
 
