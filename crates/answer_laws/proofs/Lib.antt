@@ -1,2 +1,4 @@
+pub mod Ports
+pub mod Journals
 pub mod Coming
 pub mod Binding

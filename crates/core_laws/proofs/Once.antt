@@ -51,7 +51,7 @@ all_lanes n (l ∷ lanes) f =
           let next : n + suc lane ≡ suc n + lane = omega arith in subst (λ (m : ℕ). Numbered m x.received) next (f (suc lane) x g)),
     )
 
-numbered : (w : World) → IsNumbered w → AllNumbered 0 w.lanes
+pub numbered : (w : World) → IsNumbered w → AllNumbered 0 w.lanes
 numbered w h = all_lanes 0 w.lanes (λ lane l g. let e : lane ≡ 0 + lane = omega arith in subst (λ (m : ℕ). Numbered m l.received) e (lane_numbered w h lane l g))
 
 -- ---- as often held as received

@@ -46,7 +46,7 @@ gone_place c w k place closed e = (subst (λ (ps : List Place). Each (λ (p : Pl
 
 -- ---- a key that has a place was received
 
-any_hit : {X : Type 0} (p : X → Bool) (xs : List X) → list_any p xs ≡ true → (x : X) × (Split x xs) × (p x ≡ true)
+pub any_hit : {X : Type 0} (p : X → Bool) (xs : List X) → list_any p xs ≡ true → (x : X) × (Split x xs) × (p x ≡ true)
 any_hit p [] e = absurd (cc e)
 any_hit {X} p (x ∷ xs) e = go (p x) refl e (any_hit p xs)
   where
@@ -54,7 +54,7 @@ any_hit {X} p (x ∷ xs) e = go (p x) refl e (any_hit p xs)
     go true h e more = (x, record { front = []; back = xs; is = refl }, h)
     go false h e more = let m = more e in (m.0, record { front = x ∷ m.1.front; back = m.1.back; is = ap (λ (ys : List X). x ∷ ys) m.1.is }, m.2)
 
-got_at : {X : Type 0} (x : X) (front back : List X) → slice_get (front ++ x ∷ back) (length front) ≡ Some x
+pub got_at : {X : Type 0} (x : X) (front back : List X) → slice_get (front ++ x ∷ back) (length front) ≡ Some x
 got_at x [] back = refl
 got_at x (y ∷ front) back = got_at x front back
 

@@ -1,5 +1,6 @@
--- To be read in this order: Sums, Sampled, Percentages, Bounds.
+-- To be read in this order: Sums, Sampled, Untaken, Percentages, Bounds.
 pub mod Sums
 pub mod Sampled
+pub mod Untaken
 pub mod Percentages
 pub mod Bounds

@@ -3,6 +3,7 @@
 ghost use Rattle.world_theory.specs.Headline.{OfEachRun};
 ghost use Rattle.core_laws.specs.Sums.{AddsUp, AddsUpClosed};
 ghost use Rattle.core_laws.specs.Sampled.{SampledComesOut, LateFollowsOut, OnlySampledComesOut, NoneAgainst, AlwaysSampleSamplesAll};
+ghost use Rattle.core_laws.specs.Untaken.{UntakenIsCounted};
 ghost use Rattle.core_laws.specs.Percentages.{HundredPercentChoosesAll};
 ghost use Rattle.core_laws.specs.Bounds.{WaitingTracesAreFew, WaitingBytesAreFew};
 
@@ -20,6 +21,12 @@ pub fn sampled_comes_out()
     ensures decided { OfEachRun SampledComesOut }
     ensures late { OfEachRun LateFollowsOut }
     ensures only { OfEachRun OnlySampledComesOut }
+{}
+
+/// In a closed run a received span is counted under 1 exactly where its ids are invalid, and under 2 exactly where they
+/// are valid and no shard took it. So each span with valid ids was taken by a shard, or is counted under 2.
+pub fn untaken_is_counted()
+    ensures { OfEachRun UntakenIsCounted }
 {}
 
 /// Where the policies sample all spans whatever a limiter answers, as `always_sample` does, and a trace may have any

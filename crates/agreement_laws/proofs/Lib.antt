@@ -1,0 +1,5 @@
+pub mod Pulled
+pub mod Sent
+pub mod Items
+pub mod Same
+mod Rows
