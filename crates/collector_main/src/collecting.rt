@@ -45,6 +45,8 @@ pub fn serve_by<
     around: Surroundings<I, E>,
     writer: W,
 ) -> (W, Outcome)
+where
+    T::Dir: Send + 'static,
     ensures { (arguments : List (List ℕ)) → (unread : KnownReader) → Serves (record {
       arguments = arguments;
       file = file_of (λ v. v.items) file;

@@ -15,13 +15,17 @@ const MEBIBYTE: u64 = 1_048_576;
 
 /// Starts what writes a line for each decided and each evicted trace, where the configuration names a file for them. An
 /// error, which is said: it can't be opened.
+// The thread opens files, so all that the runtime has of these must be free to go there, folders as well (D-387).
 pub fn opened_decisions<T: Files<File = File> + Machine + Copy + Send + 'static, E: Write + Drop>(
     rt: &T,
     alloc: Global,
     config: &Config,
     charge: &Arc<Charge, Global>,
     events: &mut EventWriter<E>,
-) -> io::Result<DecisionWriter> {
+) -> io::Result<DecisionWriter>
+where
+    T::Dir: Send + 'static,
+{
     let path = config.decisions.as_str();
     if path.is_empty() {
         return Ok(DecisionWriter::none());
@@ -41,7 +45,10 @@ fn writer_of<T: Files<File = File> + Machine + Copy + Send + 'static>(
     alloc: Global,
     config: &Config,
     charge: &Arc<Charge, Global>,
-) -> io::Result<DecisionWriter> {
+) -> io::Result<DecisionWriter>
+where
+    T::Dir: Send + 'static,
+{
     let path = String::from_str(alloc, config.decisions.as_str())?;
     // As many as of the output.
     let keep = u32::try_from(config.output_keep).unwrap_or(u32::MAX);

@@ -38,6 +38,8 @@ pub fn program<
     around: Surroundings<Input, Errors>,
     writer: Writer,
 ) -> (Writer, u8)
+where
+    Runtime::Dir: Send + 'static,
     ensures { Ends (map string_bytes arguments.now) (Input.Read.remaining around.input) (Script.given reader.old) (Script.given reader.new) (Writer.contents writer) (Writer.contents result.0) result.1 }
 {
     // Before the arguments are looked at, so that each outcome can be told (D-238).
@@ -68,6 +70,8 @@ fn run<
     around: Surroundings<Input, Errors>,
     writer: Writer,
 ) -> (Writer, Outcome)
+where
+    Runtime::Dir: Send + 'static,
     ensures { (file : Result (List ℕ) FileFault) × CameTo (record {
       arguments = map string_bytes arguments.now;
       file = file;
