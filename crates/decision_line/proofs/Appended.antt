@@ -1,6 +1,6 @@
 -- Texts that are appended one after the other.
 -- For the contracts of `append_decided`, `append_evicted` and `put_policies`.
-use Rattle.std.proofs.Common.{◌≡◌, ◌≤◌, ◌+◌, ◌++◌, ℕ, List, ap, sym, ◌∙◌, append_assoc, arith, length, length-append, take, subst}
+use Rattle.std.proofs.Common.{◌≡◌, ◌≤◌, ◌++◌, ℕ, List, ap, sym, ◌∙◌, append_assoc, arith, length, take, subst}
 use Rattle.std.proofs.lemmas.List.{length-take, take-append-le, take-take, take_all}
 use Rattle.std.specs.Prelude.{Result, Ok, Err, OnOk}
 use Rattle.decision_line.specs.Appending.{Appends}

@@ -1,14 +1,13 @@
 -- The texts of the lines' values read as these values again. For the contracts of `append_decided` and `append_evicted`.
-use Rattle.std.proofs.Common.{◌≡◌, ◌≤◌, ◌<◌, ◌-◌, ◌^◌, ℕ, List, [], ◌∷◌, arith}
+use Rattle.std.proofs.Common.{◌≤◌, ◌<◌, ◌-◌, ◌^◌, ℕ, List, [], ◌∷◌, arith}
 use Rattle.std.specs.Prelude.{Option, Some, None}
-use Rattle.json.specs.Json.{Json}
 use Rattle.json.specs.Tree.{HasNumbers, ItemsHaveNumbers, depth, items_depth}
 use Rattle.json.proofs.Printed.Decimals.{IsNumber-decimal}
 use Rattle.json.proofs.Printed.Trees.{document-print}
 use Rattle.decision_line.specs.declared.decision.DecidedTrace.{DecidedTrace}
 use Rattle.decision_line.specs.declared.decision.EvictedTrace.{EvictedTrace}
 use Rattle.decision_line.specs.declared.decision.Said.{Said}
-use Rattle.decision_line.specs.Line.{ReadsBack, decided_value, decider_value, evicted_value, name_or_null, policy_items}
+use Rattle.decision_line.specs.Line.{ReadsBack, decided_value, evicted_value, name_or_null, policy_items}
 use Rattle.std.specs.Prelude.{option_and_then, slice_get}
 
 name-numbers : (name : Option (List ℕ)) → HasNumbers (name_or_null name)

@@ -1,6 +1,6 @@
 -- Words, ids and strings without escapes.
 -- For the contracts of `put_escapes`, `put_policy`, `append_decided` and `append_evicted`.
-use Rattle.std.proofs.Common.{◌≡◌, ◌+◌, ◌-◌, ◌/◌, ◌%◌, ◌<◌, ◌≤◌, ◌++◌, ◌∷◌, ◌==◌, ◌&&◌, ◌||◌, ℕ, zero, suc, Bool, true, List, [], refl, ap, ◌∙◌, arith, get_or, length, length-append, slice_index, take, drop, inl, inr}
+use Rattle.std.proofs.Common.{◌≡◌, ◌-◌, ◌/◌, ◌%◌, ◌<◌, ◌++◌, ◌∷◌, ◌==◌, ◌&&◌, ℕ, zero, suc, Bool, true, List, [], refl, ap, ◌∙◌, arith, get_or, length, length-append, slice_index, take, drop, inl, inr}
 use Rattle.std.proofs.lemmas.List.{take-append-le, take_all}
 use Rattle.std.proofs.lemmas.Bool.{and_parts, cases_lt, eqb-false, ltb-false, not-true, or_parts}
 use Rattle.json.proofs.Printed.Strings.{escape_byte_plain}

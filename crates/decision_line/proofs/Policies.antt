@@ -1,8 +1,8 @@
 -- The policies of a line, one after the other. For the contract of `put_policies`.
-use Rattle.std.proofs.Common.{◌≡◌, ◌<◌, ◌≤◌, ◌+◌, ◌++◌, ◌∷◌, ◌∙◌, ℕ, zero, suc, List, [], Bool, true, false, add-one, ap, arith, refl, sym, append_assoc, drop, drop-cons, get_or, length, map, nat_lt}
+use Rattle.std.proofs.Common.{◌≡◌, ◌<◌, ◌≤◌, ◌+◌, ◌++◌, ◌∷◌, ◌∙◌, ℕ, suc, List, [], Bool, true, false, ap, arith, refl, sym, append_assoc, drop, drop-cons, get_or, length, nat_lt}
 use Rattle.std.proofs.lemmas.Bool.{lt-ltb}
 use Rattle.std.proofs.lemmas.List.{drop-drop, drop_all, get_or-drop}
-use Rattle.std.specs.Prelude.{Err, Ok, Result, codes, fold, take}
+use Rattle.std.specs.Prelude.{Err, Ok, Result, codes, take}
 use Rattle.json.specs.Print.{print_from}
 use Rattle.json.specs.Tree.{items_tokens, json_tokens}
 use Rattle.json.proofs.Printed.Tokens.{print_from-append}

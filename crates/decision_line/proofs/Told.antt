@@ -1,6 +1,6 @@
 -- What is appended piece by piece is what the definitions say.
 -- For the contracts of `quoted`, `put_decider`, `put_policy`, `append_decided` and `append_evicted`.
-use Rattle.std.proofs.Common.{◌≡◌, ◌++◌, ◌∷◌, ◌∙◌, ℕ, List, [], Bool, true, false, ap, fold, refl, subst, sym, append_assoc, append-nil, nat_lt}
+use Rattle.std.proofs.Common.{◌≡◌, ◌++◌, ◌∷◌, ◌∙◌, ℕ, List, [], Bool, true, false, ap, fold, refl, sym, append_assoc, append-nil, nat_lt}
 use Rattle.std.specs.Prelude.{Option, Some, None, Result, codes, cond, option_and_then, slice_get}
 use Rattle.json.specs.Json.{Items, array, number, object, string}
 use Rattle.json.specs.Print.{ends, escape, escape_byte, print, print_from, quoted, separator}

@@ -1,6 +1,6 @@
 use Rattle.std.proofs.Common.{ap, map, string_bytes, ◌∙◌, length, sym, refl}
 use Rattle.std.proofs.lemmas.Option.{slice_get-map, slice_get_past, slice_get_read}
-use Rattle.std.specs.Prelude.{option_map, option_and_then, slice_get, Some, None}
+use Rattle.std.specs.Prelude.{option_map, option_and_then, slice_get, Some}
 use Rattle.decision_line.proofs.Appended.{appends-as}
 use Rattle.decision_line.proofs.Told.{decider-told, no-decider-told}
 use Rattle.decision_line.proofs.line.put_decider.Goals as goal

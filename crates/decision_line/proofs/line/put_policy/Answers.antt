@@ -1,4 +1,4 @@
-use Rattle.std.proofs.Common.{◌<◌, ℕ, List, Bor, true, false, ap, arith, nat_lt}
+use Rattle.std.proofs.Common.{ℕ, List, Bor, true, false, ap, arith, nat_lt}
 use Rattle.std.proofs.lemmas.Bool.{lt-ltb}
 use Rattle.decision_line.specs.Line.{said_word}
 use Rattle.decision_line.proofs.Escapes.{said-plain}
