@@ -6,7 +6,7 @@ import random
 import subprocess
 import tempfile
 
-from collector import ALL, PATIENCE, comes_to, free_port, post, body_of, want
+from collector import ALL, PATIENCE, LeftOut, comes_to, free_port, post, body_of, want
 from serve_output import ask_in_charge, lines_of
 
 POLICIES = [
@@ -149,7 +149,7 @@ def decisions_cannot_be_written(start):
 def decisions_of_a_full_disk(start):
     """Where no line can be written the collector goes on as before, counts what is lost, and says so at the end."""
     if not os.path.exists("/dev/full"):
-        return
+        raise LeftOut("there is no /dev/full")
     collector = start('decisions = "/dev/full"\ndecision_wait_ms = 20\ntick_ms = 10\nlog = "text"\n' + ALL)
     for number in range(1, 21):
         want("the answer", collector.ask(post(body_of(trace(number, False, False, False))))[::2], (200, "{}"))
