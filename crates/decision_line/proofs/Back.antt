@@ -1,4 +1,5 @@
--- The texts of the lines' values read as these values again. For the contracts of `append_decided` and `append_evicted`.
+-- The texts of the lines' values read as these values again. For the contracts of `append_decided`, `append_evicted` and
+-- `append_late`.
 use Rattle.std.proofs.Common.{◌≡◌, ◌≤◌, ◌<◌, ◌-◌, ◌^◌, ℕ, List, [], ◌∷◌, arith}
 use Rattle.std.specs.Prelude.{Option, Some, None}
 use Rattle.json.specs.Json.{Json}
@@ -7,8 +8,9 @@ use Rattle.json.proofs.Printed.Decimals.{IsNumber-decimal}
 use Rattle.json.proofs.Printed.Trees.{document-print}
 use Rattle.decision_line.specs.declared.decision.DecidedTrace.{DecidedTrace}
 use Rattle.decision_line.specs.declared.decision.EvictedTrace.{EvictedTrace}
+use Rattle.decision_line.specs.declared.decision.LateSpans.{LateSpans}
 use Rattle.decision_line.specs.declared.decision.Said.{Said}
-use Rattle.decision_line.specs.Line.{ReadsBack, decided_value, decider_value, evicted_value, name_or_null, policy_items}
+use Rattle.decision_line.specs.Line.{ReadsBack, decided_value, decider_value, evicted_value, late_value, name_or_null, policy_items}
 use Rattle.std.specs.Prelude.{option_and_then, slice_get}
 
 name-numbers : (name : Option (List ℕ)) → HasNumbers (name_or_null name)
@@ -56,3 +58,7 @@ decided-reads-back names said decision moment spans =
 pub evicted-reads-back : (evicted : EvictedTrace) → evicted.moment < 2 ^ 64 → evicted.spans < 2 ^ 64 → ReadsBack (evicted_value evicted)
 evicted-reads-back evicted moment spans =
     document-print (evicted_value evicted) (tt, (IsNumber-decimal evicted.moment moment, (tt, (IsNumber-decimal evicted.spans spans, tt)))) (omega arith)
+
+pub late-reads-back : (late : LateSpans) → late.moment < 2 ^ 64 → late.spans < 2 ^ 64 → ReadsBack (late_value late)
+late-reads-back late moment spans =
+    document-print (late_value late) (tt, (IsNumber-decimal late.moment moment, (tt, (tt, (IsNumber-decimal late.spans spans, tt))))) (omega arith)

@@ -1,5 +1,5 @@
 -- Worked rows, computed: whole lines. No two of the values of a line are the same.
--- They serve the definitions that `put_decided` and `put_evicted` promise.
+-- They serve the definitions that `put_decided`, `put_evicted` and `put_late` promise.
 use Rattle.std.proofs.Common.{◌≡◌, ◌++◌, refl, [], ◌∷◌}
 use Rattle.std.specs.Prelude.{Some, None, codes}
 use Rattle.std.specs.Fmt.{digits}
@@ -8,7 +8,7 @@ use Rattle.json.specs.Print.{escape_byte, print_from}
 use Rattle.span_ids.specs.declared.outcome.Verdict.TheVariants as verdict
 use Rattle.decision_line.specs.declared.decision.DueCause.TheVariants.{Wait, RootWait, Size, Close}
 use Rattle.decision_line.specs.declared.decision.Said.TheVariants.{Sampled, NotSampled, InvertedSampled, InvertedNotSampled, Dropped, NotAsked}
-use Rattle.decision_line.specs.Line.{decided_line, evicted_line}
+use Rattle.decision_line.specs.Line.{decided_line, evicted_line, late_line}
 
 -- the second of three policies decided, and nothing is said of the third
 second_of_three : decided_line (codes "errors" ∷ codes "slow" ∷ codes "rest" ∷ []) (NotSampled ∷ Sampled ∷ [])
@@ -45,3 +45,8 @@ evicted : evicted_line (record { trace = 91 ∷ 142 ∷ 255 ∷ 247 ∷ 152 ∷ 
     ≡ codes "{\"traceId\":\"5b8efff798038104d269b633823fc60c\",\"moment\":1700000030001,\"verdict\":\"evicted\",\"spans\":3}\n"
 unfolding digits encode_with escape_byte print_from
 evicted = refl
+
+late : late_line (record { trace = 91 ∷ 142 ∷ 255 ∷ 247 ∷ 152 ∷ 3 ∷ 129 ∷ 4 ∷ 210 ∷ 105 ∷ 182 ∷ 51 ∷ 130 ∷ 63 ∷ 198 ∷ 12 ∷ []; moment = 1700000030002; verdict = verdict.NotSampled; spans = 4 })
+    ≡ codes "{\"traceId\":\"5b8efff798038104d269b633823fc60c\",\"moment\":1700000030002,\"verdict\":\"notSampled\",\"by\":\"late\",\"spans\":4}\n"
+unfolding digits encode_with escape_byte print_from
+late = refl

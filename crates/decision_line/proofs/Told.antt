@@ -82,6 +82,21 @@ unfolding print_from escape_byte
 evicted-told id moment spans =
     evicted-pieces (codes "{\"traceId\":\"") (escape id) (codes "\"") (codes ",\"moment\":") moment (codes ",\"verdict\":\"evicted\",\"spans\":") spans (codes "}") (codes "\n")
 
+-- ---- late spans
+
+late-pieces : (k1 id q k2 moment k3 verdict k4 spans e feed : List ℕ)
+    → (k1 ++ id) ++ (((q ++ k2) ++ moment) ++ ((k3 ++ (verdict ++ q)) ++ ((k4 ++ spans) ++ (e ++ feed))))
+    ≡ (k1 ++ ((id ++ q) ++ (k2 ++ (moment ++ (k3 ++ ((verdict ++ q) ++ (k4 ++ (spans ++ e)))))))) ++ feed
+late-pieces k1 id q k2 moment k3 verdict k4 spans e feed = simp append_assoc
+
+pub late-told : (id moment verdict spans : List ℕ) → escape verdict ≡ verdict
+    → (codes "{\"traceId\":\"" ++ escape id) ++ ((codes "\",\"moment\":" ++ moment) ++ ((codes ",\"verdict\":\"" ++ (verdict ++ codes "\"")) ++ ((codes ",\"by\":\"late\",\"spans\":" ++ spans) ++ codes "}\n")))
+    ≡ line_of (object (members_of ((codes "traceId", string id) ∷ (codes "moment", number moment) ∷ (codes "verdict", string verdict) ∷ (codes "by", string (codes "late")) ∷ (codes "spans", number spans) ∷ [])))
+unfolding print_from escape_byte
+late-told id moment verdict spans plain =
+    late-pieces (codes "{\"traceId\":\"") (escape id) (codes "\"") (codes ",\"moment\":") moment (codes ",\"verdict\":\"") verdict (codes ",\"by\":\"late\",\"spans\":") spans (codes "}") (codes "\n")
+    ∙ ap (λ (v : List ℕ). (codes "{\"traceId\":\"" ++ ((escape id ++ codes "\"") ++ (codes ",\"moment\":" ++ (moment ++ (codes ",\"verdict\":\"" ++ ((v ++ codes "\"") ++ (codes ",\"by\":\"late\",\"spans\":" ++ (spans ++ codes "}")))))))) ++ codes "\n") (sym plain)
+
 -- ---- a decided trace
 
 decided-pieces : (k1 id q k2 moment k3 verdict k4 policy k5 cause k6 spans k7 waited k8 items e feed : List ℕ)

@@ -10,6 +10,7 @@ use Rattle.decision_line.specs.declared.decision.DecidedTrace.{DecidedTrace}
 use Rattle.decision_line.specs.declared.decision.DueCause.{DueCause}
 use Rattle.decision_line.specs.declared.decision.DueCause.TheVariants.{Wait, RootWait, Size, Close}
 use Rattle.decision_line.specs.declared.decision.EvictedTrace.{EvictedTrace}
+use Rattle.decision_line.specs.declared.decision.LateSpans.{LateSpans}
 use Rattle.decision_line.specs.declared.decision.Said.{Said}
 use Rattle.decision_line.specs.declared.decision.Said.TheVariants.{Sampled, NotSampled, InvertedSampled, InvertedNotSampled, Dropped, NotAsked}
 
@@ -89,6 +90,18 @@ evicted_value evicted =
     ∷ (codes "spans", count evicted.spans)
     ∷ []))
 
+-- late spans: by no wait of theirs, but since their trace was decided
+abbrev pub late_value : LateSpans → Json
+late_value late =
+    object
+    (members_of
+    ((codes "traceId", string (id_text late.trace))
+    ∷ (codes "moment", count late.moment)
+    ∷ (codes "verdict", string (verdict_word late.verdict))
+    ∷ (codes "by", string (codes "late"))
+    ∷ (codes "spans", count late.spans)
+    ∷ []))
+
 -- ---- lines
 
 -- a value with no blanks, and a line feed
@@ -102,6 +115,10 @@ decided_line names said decision = line_of (decided_value names said decision)
 -- the line of an evicted trace
 abbrev pub evicted_line : EvictedTrace → List ℕ
 evicted_line evicted = line_of (evicted_value evicted)
+
+-- the line of late spans
+abbrev pub late_line : LateSpans → List ℕ
+late_line late = line_of (late_value late)
 
 -- the value's text is JSON, and reads as this value again
 abbrev pub ReadsBack : Json → Type 0

@@ -18,6 +18,13 @@ pub enum Said {
     NotAsked,
 }
 
+impl Default for Said {
+    /// Nothing is said yet.
+    fn default() -> Self {
+        Said::NotAsked
+    }
+}
+
 /// Why a trace was decided when it was.
 #[derive(Clone, Copy, Debug, PartialEq, Eq)]
 pub enum DueCause {
@@ -56,5 +63,17 @@ pub struct EvictedTrace {
     /// When it left, in milliseconds, by the clock of its shard.
     pub moment: u64,
     /// How many spans it had then.
+    pub spans: u64,
+}
+
+/// Spans of one trace that came after it was decided, one after the other.
+#[derive(Clone, Copy)]
+pub struct LateSpans {
+    pub trace: TraceId,
+    /// When the last of them came, in milliseconds, by the clock of its shard.
+    pub moment: u64,
+    /// The verdict that they met: sampled ones are handed over.
+    pub verdict: Verdict,
+    /// How many they are.
     pub spans: u64,
 }

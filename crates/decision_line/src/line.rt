@@ -3,9 +3,9 @@ ghost use Rattle.std.specs.Prelude.{◌≡◌, ◌++◌, ◌<◌, codes, false, 
 ghost use Rattle.json.specs.Print.{print, print_from};
 ghost use Rattle.json.specs.Tree.{items_tokens, json_tokens};
 ghost use Rattle.decision_line.specs.Appending.{Appends};
-ghost use Rattle.decision_line.specs.Line.{ReadsBack, decided_line, decided_value, decider_value, evicted_line, evicted_value, policy_items, policy_value};
+ghost use Rattle.decision_line.specs.Line.{ReadsBack, decided_line, decided_value, decider_value, evicted_line, evicted_value, late_line, late_value, policy_items, policy_value};
 
-use crate::decision::{DecidedTrace, EvictedTrace, Said};
+use crate::decision::{DecidedTrace, EvictedTrace, LateSpans, Said};
 use crate::members::{cause_member, said_member, verdict_member};
 use crate::putting::{put, put_escaped, put_number, put_trace};
 use std::alloc::AllocError;
@@ -133,6 +133,34 @@ pub fn put_evicted(line: &mut Vec<u8>, evicted: &EvictedTrace) -> Result<(), All
     line.reserve(LINE_ROOM)?;
     let before = line.len();
     let put = append_evicted(line, evicted);
+    if put.is_err() {
+        line.truncate(before);
+    }
+    put
+}
+
+/// Appends the line of late spans. An `Err` may leave some of it behind the bytes that were there.
+fn append_late(line: &mut Vec<u8>, late: &LateSpans) -> Result<(), AllocError>
+    ensures text { Appends result line.old.items line.new.items (late_line late.now) }
+    ensures back { OnOk result (ReadsBack (late_value late.now)) }
+{
+    put_trace(line, "{\"traceId\":\"", late.trace)?;
+    put_number(line, "\",\"moment\":", late.moment)?;
+    put(line, verdict_member(late.verdict))?;
+    put_number(line, ",\"by\":\"late\",\"spans\":", late.spans)?;
+    put(line, "}\n")
+}
+
+/// Appends the line of late spans. It takes memory at most once. `Err` where memory was refused: the bytes are as they
+/// were.
+pub fn put_late(line: &mut Vec<u8>, late: &LateSpans) -> Result<(), AllocError>
+    ensures line { OnOk result (line.new.items ≡ line.old.items ++ late_line late.now) }
+    ensures back { OnOk result (ReadsBack (late_value late.now)) }
+    ensures same { OnErr result (line.new.items ≡ line.old.items) }
+{
+    line.reserve(LINE_ROOM)?;
+    let before = line.len();
+    let put = append_late(line, late);
     if put.is_err() {
         line.truncate(before);
     }

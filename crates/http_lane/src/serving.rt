@@ -5,23 +5,25 @@ ghost use Rattle.lane_seq.specs.declared.preparing.Conn.{Conn};
 ghost use Rattle.std.specs.Io.KnownBytes.{Appends};
 ghost use Rattle.http_answer.specs.Answer.{text_of_answer};
 ghost use Rattle.http_lane.specs.Connection.{RequestReading, IsTextOf};
-ghost use Rattle.http_lane.specs.Engine.{Puts, Settled, SettledTo, Responds, Acts, IsOpenAfter, IsFateOfText, Lapses, Waits, Served, Sees, answer_to};
+ghost use Rattle.http_lane.specs.Engine.{Puts, Settled, SettledTo, Responds, Acts, IsOpenAfter, IsFateOfText, Lapses, Waits, Served, Sees};
 ghost use Rattle.http_lane.specs.Connection.{end_with, ConnectionStanding, in_head, is_between, encoding_in};
 ghost use Rattle.http_lane.specs.declared.answer.ServeEnd.TheVariants.{Closed, Cut};
 
-use crate::answer::{Brought, EventFate, QUIET_LIMIT, READ_LIMIT, ReadTurn, SLOW_LIMIT, ServeEnd};
+use crate::answer::{
+    Brought, EventFate, QUIET_LIMIT, READ_LIMIT, ReadTurn, SLOW_LIMIT, ServeEnd, unfit,
+};
 use crate::engine::Engine;
 use crate::lent::{Clock, HasStopMark, Lent};
 use crate::reads::{PIECE_LIMIT, Source};
 use crate::requests::Requests;
 use drop_ledger::Counter;
 use http_answer::{Response, status_of, text_of};
-use http_text::RequestRefusal;
-use inflate::{GzipFault, gunzip};
+use inflate::gunzip;
 use lane_queue::Port;
 use lane_seq::{Conn, Lane, Reply, count_reply};
 use otlp_encoding::Encoding;
 use otlp_types::Item;
+use span_ids::ConnKey;
 use std::io::Write;
 
 /// Writes the whole text, unless a write fails.
@@ -92,10 +94,12 @@ fn submit<
 ) -> (bool, EventFate)
     ensures { (limit : ℕ) (is_packed : Bool) (body : List ℕ) → IsTextOf limit is_packed body text.now → Responds (Submits ShardPort.takes ShardPort.refuses) (Writer.contents writer.old) (Writer.contents writer.new) (intake lane.old conn.old (Ledger.counted counts.old)) (intake lane.new conn.new (Ledger.counted counts.new)) encoding limit is_packed (Some body) says_close result }
 {
-    let reply = lane.submit(lent.alloc, conn, encoding, text, lent.clock.now());
+    let moment = lent.clock.now();
+    let reply = lane.submit(lent.alloc, conn, encoding, text, moment);
     if !count_reply(counts, &reply) {
         return (says_close, EventFate::Uncounted);
     }
+    tell_taken(lent, conn.key, moment, encoding, text, &reply);
     let replied = Response::Replied {
         reply,
         closes: says_close,
@@ -103,20 +107,17 @@ fn submit<
     (says_close, answer(lent, encoding, writer, &replied))
 }
 
-/// The answer to a packed body that gives no text.
-fn unfit(fault: GzipFault) -> Response
-    ensures { result ≡ answer_to fault }
-{
-    match fault {
-        GzipFault::Broken => Response::Refused {
-            refusal: RequestRefusal::NotGzip,
-            is_head: false,
-        },
-        GzipFault::TooLong => Response::Refused {
-            refusal: RequestRefusal::BodyTooLarge,
-            is_head: false,
-        },
-        GzipFault::NoMemory => Response::Starved,
+/// Tells of a request that was taken.
+fn tell_taken<'l, Mark: HasStopMark, Time: Clock>(
+    lent: &Lent<'l, Mark, Time>,
+    connection: ConnKey,
+    moment: u64,
+    encoding: Encoding,
+    text: &[u8],
+    reply: &Reply,
+) {
+    if reply.is_received() {
+        lent.clock.took(connection, moment, encoding, text);
     }
 }
 

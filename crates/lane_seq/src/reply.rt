@@ -1,4 +1,7 @@
 //! What a request is answered.
+ghost use Rattle.std.specs.Prelude.{◌≡◌};
+ghost use Rattle.lane_seq.specs.Replies.{is_received};
+
 use otlp_request::BadData;
 
 /// The answer to a request (OTLP 1.x, OTLP/HTTP response).
@@ -22,4 +25,16 @@ pub enum Reply {
     BadData(BadData),
     /// Memory was wanting, or the connection's numbers would pass 2^64-1: no span was received.
     Busy,
+}
+
+impl Reply {
+    /// Whether the request's spans were received, all of them or some.
+    pub fn is_received(&self) -> bool
+        ensures { result ≡ is_received self.now }
+    {
+        match self {
+            Reply::Done { .. } | Reply::Partial { .. } => true,
+            Reply::BadData(_) | Reply::Busy => false,
+        }
+    }
 }

@@ -4,6 +4,7 @@ ghost use Rattle.journal_theory.specs.Journal.{Settings};
 ghost use Rattle.script_run.specs.World.{ends_from};
 ghost use Rattle.script_session.specs.Pulling.{GoesOn, AreQuiet, HaveSettings, RoundsTaken, ends_of, has_all_nodes};
 
+use crate::listening::Listener;
 use crate::output::Output;
 use crate::signal::Signal;
 use crate::taking::tell_each;
@@ -12,10 +13,11 @@ use shard_core::Shard;
 use span_sink::Sink;
 
 /// The lanes, of this number, end at each shard, and then the ticker.
-pub fn end_all<S: Sink>(
+pub fn end_all<S: Sink, L: Listener>(
     shards: &mut [Shard],
     limiter: &mut Budgets,
     output: &mut Output<S>,
+    listener: &mut L,
     lanes: u16,
 )
     requires quiet { AreQuiet (ends_of lanes false) shards.old }
@@ -29,7 +31,7 @@ pub fn end_all<S: Sink>(
 {
     // One after the other at every shard, and then the ticker: only the last End makes traces due (D-236).
     for lane in 0..lanes {
-        tell_each(shards, limiter, output, Signal::End(lane));
+        tell_each(shards, limiter, output, listener, Signal::End(lane));
     }
-    tell_each(shards, limiter, output, Signal::End(lanes));
+    tell_each(shards, limiter, output, listener, Signal::End(lanes));
 }

@@ -12,6 +12,7 @@ mod connections;
 mod ending;
 mod fault;
 mod laws;
+mod listening;
 mod output;
 mod receiving;
 mod replay;
@@ -22,4 +23,5 @@ mod taking;
 
 pub use fault::ReplayFault;
 pub use laws::calm_replays_agree;
+pub use listening::{Listener, Unheard};
 pub use replay::replay_run;

@@ -44,10 +44,5 @@ pub(crate) fn submit(
 pub fn is_received(reply: &Reply) -> bool
     ensures { result ≡ is_received reply.now }
 {
-    match reply {
-        Reply::Done { .. } => true,
-        Reply::Partial { .. } => true,
-        Reply::BadData(_) => false,
-        Reply::Busy => false,
-    }
+    reply.is_received()
 }

@@ -12,6 +12,7 @@ ghost use Rattle.script_session.specs.Replay.{RunEnds};
 
 use crate::connections::Connections;
 use crate::fault::ReplayFault;
+use crate::listening::Unheard;
 use crate::output::Output;
 use crate::replying::MAX_REPLY_LINE;
 use crate::session::Session;
@@ -79,6 +80,7 @@ pub fn replay_run<R: ScriptSource, S: Sink>(
         shards,
         limiter,
         output: Output::new(exporter),
+        listener: Unheard,
         text,
         closed: false,
     };
@@ -143,7 +145,7 @@ fn new_queues(
 fn run_session<R: ScriptSource, S: Sink>(
     alloc: Global,
     reader: &mut R,
-    session: Session<S>,
+    session: Session<S, Unheard>,
 ) -> (S, Result<Report, ReplayFault>)
     requires open { session.closed ≡ false }
     requires up { session.output.0.sink.is_down ≡ false }
@@ -165,5 +167,6 @@ fn run_session<R: ScriptSource, S: Sink>(
 {
     let mut session = session;
     let played = play_script(alloc, reader, &mut session);
-    session.end(played)
+    let (sink, answer, _) = session.end(played);
+    (sink, answer)
 }

@@ -12,6 +12,7 @@ ghost use Rattle.script_session.specs.Answers.{AnswersStop};
 use crate::connections::Connections;
 use crate::ending::end_all;
 use crate::fault::ReplayFault;
+use crate::listening::Listener;
 use crate::output::Output;
 use crate::receiving::{is_received, submit};
 use crate::replying::{MAX_REPLY_LINE, write_reply_line};
@@ -32,7 +33,7 @@ use tsc_script::{ScriptCommand, ScriptPlayer, ScriptStop};
 /// The connections, the shards and the exporter, between two lines of a script: the queues are empty, all that was due
 /// is decided, and all that was released has gone to the sink.
 #[derive(Drop)]
-pub struct Session<S: Sink> {
+pub struct Session<S: Sink, L: Listener> {
     pub alloc: Global,
     pub connections: Connections,
     /// The queue of each shard.
@@ -45,6 +46,8 @@ pub struct Session<S: Sink> {
     /// The one limiter of all shards.
     pub limiter: Budgets,
     pub output: Output<S>,
+    /// What is told of each decision.
+    pub listener: L,
     /// Room for a reply line.
     pub text: Vec<u8>,
     /// Whether the lanes and the ticker have ended.
@@ -59,11 +62,11 @@ pub struct Session<S: Sink> {
     ghost room: { MAX_REPLY_LINE ≤ vec_capacity text },
 }
 
-impl<S: Sink> Session<S> {
+impl<S: Sink, L: Listener> Session<S, L> {
     ghost use Rattle.script_session.specs.Playing.{PlaysOne, Leaves};
 
-    /// Gives the sink back, with the report or what kept the script from its end.
-    pub fn end(self, played: Result<(), ScriptStop>) -> (S, Result<Report, ReplayFault>)
+    /// Gives the sink back, with the report or what kept the script from its end, and what was told.
+    pub fn end(self, played: Result<(), ScriptStop>) -> (S, Result<Report, ReplayFault>, L)
         ensures taken { S.taken result.0 ≡ self.output.0.sink.taken }
         ensures failures { S.failures result.0 ≡ self.output.0.sink.failures }
         ensures answer { AnswersStop played self.output.1 result.1 }
@@ -77,11 +80,12 @@ impl<S: Sink> Session<S> {
             shards: _,
             limiter: _,
             output,
+            listener,
             text: _,
             closed: _,
         } = self;
         let (sink, report) = output.end();
-        (sink, answer_of(played, report))
+        (sink, answer_of(played, report), listener)
     }
 
     /// Answers a request, and gives its spans to the shards.
@@ -111,6 +115,7 @@ impl<S: Sink> Session<S> {
             &mut self.queues,
             &mut self.limiter,
             &mut self.output,
+            &mut self.listener,
         );
         self.output.send();
     }
@@ -126,6 +131,7 @@ impl<S: Sink> Session<S> {
             &mut self.shards,
             &mut self.limiter,
             &mut self.output,
+            &mut self.listener,
             Signal::Tick(moment),
         );
         self.output.send();
@@ -141,6 +147,7 @@ impl<S: Sink> Session<S> {
             &mut self.shards,
             &mut self.limiter,
             &mut self.output,
+            &mut self.listener,
             self.connections.lanes(),
         );
         self.output.send();
@@ -166,7 +173,7 @@ impl<S: Sink> Session<S> {
     }
 }
 
-impl<S: Sink> ScriptPlayer for Session<S> {
+impl<S: Sink, L: Listener> ScriptPlayer for Session<S, L> {
     ghost leads = { λ start instructions now. (now.output.0.size ≡ start.output.0.size) × (now.queue_capacity ≡ start.queue_capacity)
         × (now.keeps_doubles ≡ start.keeps_doubles)
         × ((s : Settings) (w : ScriptWorld) → AreOf s w start.connections start.shards.items start.limiter start.output start.closed

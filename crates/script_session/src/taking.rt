@@ -9,6 +9,7 @@ ghost use Rattle.script_run.specs.World.{ShardTurn, to_each};
 ghost use Rattle.script_session.specs.Signals.{item_of};
 ghost use Rattle.script_session.specs.Pulling.{PullsAll, GoesOn, TakesItems, DecidesAll, has_nodes_of, has_all_nodes, AreOpen, AreQuiet, HaveSettings, EachTakes, RoundsTaken, StayBefore, rounds_of, is_queued, emptied, items_in, HoldsQueued};
 
+use crate::listening::{Listener, decide_told, tell_taken};
 use crate::output::Output;
 use crate::signal::Signal;
 use lane_queue::ListPort;
@@ -18,10 +19,11 @@ use shard_core::{Shard, settle_decided, settle_taken};
 use span_sink::Sink;
 
 /// Takes an item, decides all that is due by the limiter, and puts what that releases into the batch.
-pub fn take_item<S: Sink>(
+pub fn take_item<S: Sink, L: Listener>(
     shard: &mut Shard,
     limiter: &mut Budgets,
     output: &mut Output<S>,
+    listener: &mut L,
     item: Item,
 )
     requires nothing_due { has_due shard.old ≡ false }
@@ -37,12 +39,18 @@ pub fn take_item<S: Sink>(
 {
     // Nothing limits memory here but the allocator itself.
     let taken = shard.take(item, true);
+    tell_taken(listener, &taken, shard.clock());
     settle_taken(&(), taken, output);
-    decide_all(shard, limiter, output);
+    decide_all(shard, limiter, output, listener);
 }
 
 /// Decides all that is due by the limiter, and puts what that releases into the batch.
-fn decide_all<S: Sink>(shard: &mut Shard, limiter: &mut Budgets, output: &mut Output<S>)
+fn decide_all<S: Sink, L: Listener>(
+    shard: &mut Shard,
+    limiter: &mut Budgets,
+    output: &mut Output<S>,
+    listener: &mut L,
+)
     requires nodes { has_nodes_of limiter.old shard.old ≡ true }
     ensures decides { (e : Entry) (past : ShardTurn) → e.answers ≡ [] → StandsFor shard.old (e ∷ past.journal) 0 → limiter.old ≡ limiter_counts (settings shard.old).policies past.askings
         → DecidesAll (settings shard.old) e past output.old shard.new limiter.new output.new }
@@ -53,7 +61,7 @@ fn decide_all<S: Sink>(shard: &mut Shard, limiter: &mut Budgets, output: &mut Ou
     ensures goes_on { GoesOn output.old output.new }
 {
     'deciding: loop {
-        let decided = shard.decide(limiter);
+        let decided = decide_told(shard, limiter, listener);
         if !settle_decided(&(), decided, output) {
             return;
         }
@@ -61,11 +69,12 @@ fn decide_all<S: Sink>(shard: &mut Shard, limiter: &mut Budgets, output: &mut Ou
 }
 
 /// Takes what a queue holds, in order, and decides by the limiter.
-pub fn drain<S: Sink>(
+pub fn drain<S: Sink, L: Listener>(
     shard: &mut Shard,
     queue: &mut ListPort<Item>,
     limiter: &mut Budgets,
     output: &mut Output<S>,
+    listener: &mut L,
 )
     requires nothing_due { has_due shard.old ≡ false }
     requires running { is_finished shard.old ≡ false }
@@ -83,16 +92,17 @@ pub fn drain<S: Sink>(
         let Some(item) = queue.pop() else {
             return;
         };
-        take_item(shard, limiter, output, item);
+        take_item(shard, limiter, output, listener, item);
     }
 }
 
 /// Each shard in its turn takes what its queue holds.
-pub fn take_queued<S: Sink>(
+pub fn take_queued<S: Sink, L: Listener>(
     shards: &mut [Shard],
     queues: &mut [ListPort<Item>],
     limiter: &mut Budgets,
     output: &mut Output<S>,
+    listener: &mut L,
 )
     requires same { length queues.old ≡ length shards.old }
     requires open { AreOpen shards.old }
@@ -107,16 +117,17 @@ pub fn take_queued<S: Sink>(
     ensures length { length shards.new ≡ length shards.old }
     ensures goes_on { GoesOn output.old output.new }
 {
-    take_from(shards, 0, queues, limiter, output);
+    take_from(shards, 0, queues, limiter, output, listener);
 }
 
 /// The same of the shards from this place on, of which these are the queues.
-fn take_from<S: Sink>(
+fn take_from<S: Sink, L: Listener>(
     shards: &mut [Shard],
     place: usize,
     queues: &mut [ListPort<Item>],
     limiter: &mut Budgets,
     output: &mut Output<S>,
+    listener: &mut L,
 )
     requires same { place + length queues.old ≡ length shards.old }
     requires runs { AreOpen (drop place shards.old) }
@@ -135,17 +146,18 @@ fn take_from<S: Sink>(
     let Some((queue, rest)) = queues.split_first_mut() else {
         return;
     };
-    drain(&mut shards[place], queue, limiter, output);
-    take_from(shards, place + 1, rest, limiter, output);
+    drain(&mut shards[place], queue, limiter, output, listener);
+    take_from(shards, place + 1, rest, limiter, output, listener);
 }
 
 /// Where a request's spans were received, each shard in its turn takes what its queue holds.
-pub fn take_received<S: Sink>(
+pub fn take_received<S: Sink, L: Listener>(
     received: bool,
     shards: &mut Vec<Shard>,
     queues: &mut Vec<ListPort<Item>>,
     limiter: &mut Budgets,
     output: &mut Output<S>,
+    listener: &mut L,
 )
     requires same { length queues.old.items ≡ length shards.old.items }
     requires open { AreOpen shards.old.items }
@@ -160,15 +172,16 @@ pub fn take_received<S: Sink>(
     ensures goes_on { GoesOn output.old output.new }
 {
     if received {
-        take_queued(shards, queues, limiter, output);
+        take_queued(shards, queues, limiter, output, listener);
     }
 }
 
 /// Each shard in its turn is told the same, and decides by the one limiter.
-pub fn tell_each<S: Sink>(
+pub fn tell_each<S: Sink, L: Listener>(
     shards: &mut [Shard],
     limiter: &mut Budgets,
     output: &mut Output<S>,
+    listener: &mut L,
     signal: Signal,
 )
     requires open { AreOpen shards.old }
@@ -182,15 +195,16 @@ pub fn tell_each<S: Sink>(
     ensures goes_on { GoesOn output.old output.new }
 {
     // In turn over one limiter, so shard 0 is always asked first (D-056).
-    tell_from(shards, 0, limiter, output, signal);
+    tell_from(shards, 0, limiter, output, listener, signal);
 }
 
 /// The same of the shards from this place on.
-fn tell_from<S: Sink>(
+fn tell_from<S: Sink, L: Listener>(
     shards: &mut [Shard],
     place: usize,
     limiter: &mut Budgets,
     output: &mut Output<S>,
+    listener: &mut L,
     signal: Signal,
 )
     requires within { place ≤ length shards.old }
@@ -206,7 +220,7 @@ fn tell_from<S: Sink>(
     ensures goes_on { GoesOn output.old output.new }
 {
     if place < shards.len() {
-        take_item(&mut shards[place], limiter, output, signal.item());
-        tell_from(shards, place + 1, limiter, output, signal);
+        take_item(&mut shards[place], limiter, output, listener, signal.item());
+        tell_from(shards, place + 1, limiter, output, listener, signal);
     }
 }

@@ -21,9 +21,11 @@ mod ends;
 mod keeping;
 mod setup;
 mod shard;
+mod telling;
 
 pub use answer::{Decided, Decision, DueTrace, Taken};
 pub use desk::{Desk, settle_decided, settle_taken};
 pub use journal_theory::laws;
 pub use setup::{ShardSetup, Waits};
 pub use shard::Shard;
+pub use telling::{told_answers, told_decision, told_evicted, verdict_of_late};

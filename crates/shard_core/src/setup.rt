@@ -1,5 +1,11 @@
 //! What a shard is made with.
+ghost use Rattle.std.specs.Prelude.{◌≡◌, ◌<◌, [], false, replicate, IfOk};
+ghost use Rattle.decision_cache.specs.Lists.{empty_lists};
+
+use decision_cache::DecisionCache;
 use span_ids::Moment;
+use std::alloc::{AllocError, Global};
+use trace_buffer::TraceBuffer;
 use trace_hash::TraceHashing;
 
 /// How long the traces of a shard wait, and how large they may grow.
@@ -29,4 +35,25 @@ pub struct ShardSetup {
     pub non_sampled_cache_size: usize,
     /// Senders have the numbers below this one.
     pub senders: usize,
+}
+
+/// The buffer and the cache of a shard that has taken nothing, and which of its senders have ended: none.
+pub(crate) fn nothing_held(
+    alloc: Global,
+    setup: ShardSetup,
+) -> Result<(TraceBuffer, DecisionCache, Vec<bool>), AllocError>
+    requires { 0 < setup.num_traces }
+    ensures buffer { IfOk result (λ held. held.0 ≡ record { episodes = []; num_traces = setup.num_traces }) }
+    ensures cache { IfOk result (λ held. held.1 ≡ empty_lists setup.sampled_cache_size setup.non_sampled_cache_size) }
+    ensures ends { IfOk result (λ held. held.2.items ≡ replicate setup.senders false) }
+{
+    let ends = vec![in alloc; false; setup.senders]?;
+    let cache = DecisionCache::new(
+        alloc,
+        setup.hashing,
+        setup.sampled_cache_size,
+        setup.non_sampled_cache_size,
+    )?;
+    let buffer = TraceBuffer::new(alloc, setup.hashing, setup.num_traces)?;
+    Ok((buffer, cache, ends))
 }

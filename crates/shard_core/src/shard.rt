@@ -11,19 +11,17 @@ ghost use Rattle.policy_eval.specs.Given.{EvaluatesWithAnswers};
 ghost use Rattle.policy_eval.specs.Searches.{are_known};
 ghost use Rattle.policy_tree.specs.Expressions.{expressions_in};
 ghost use Rattle.journal_theory.specs.Fate.{effect, effect_dealt, released_dealt, dropped_dealt};
-ghost use Rattle.decision_cache.specs.Lists.{empty_lists};
 ghost use Rattle.shard_core.specs.Taking.{Releases, is_kept};
 ghost use Rattle.trace_buffer.specs.Buffer.{Appended, Opened, is_due_at, is_new, opened_by, stands_undecided};
 ghost use Rattle.shard_core.specs.Holding.{answer_to_append, policies_on};
-ghost use Rattle.shard_core.specs.Telling.{cause_of};
 
 use crate::answer::{Decided, Decision, DueTrace, Taken, late};
 use crate::ends::all_but;
 use crate::keeping::{appended, opened};
-use crate::setup::{ShardSetup, Waits};
+use crate::setup::{ShardSetup, Waits, nothing_held};
+use crate::telling::cause_of;
 use arrayvec::ArrayVec;
 use decision_cache::DecisionCache;
-use decision_line::DueCause;
 use otlp_types::{Arrival, Ids, Item};
 use policy_eval::{Evaluation, Searches, evaluate_with_answers, searches_for};
 use policy_tree::Policies;
@@ -377,22 +375,6 @@ impl Shard {
     }
 }
 
-/// Why an episode that is due is decided now.
-fn cause_of(episode: &Episode, finished: bool, mark: Moment, decision_wait: Moment) -> DueCause
-    ensures { result ≡ cause_of finished mark decision_wait episode.now }
-{
-    let is_too_big = episode.is_too_big();
-    if is_too_big {
-        DueCause::Size
-    } else if finished {
-        DueCause::Close
-    } else if episode.moment() as u128 + decision_wait as u128 <= mark as u128 {
-        DueCause::Wait
-    } else {
-        DueCause::RootWait
-    }
-}
-
 /// What the policies make of an episode's spans: no policy is asked where it is too big.
 fn decide_on<L: Limiter>(
     policies: &Policies,
@@ -417,27 +399,6 @@ fn decide_on<L: Limiter>(
         };
     }
     evaluate_with_answers(policies, episode.spans(), now, limiter, searches)
-}
-
-/// The buffer and the cache of a shard that has taken nothing, and which of its senders have ended: none.
-fn nothing_held(
-    alloc: Global,
-    setup: ShardSetup,
-) -> Result<(TraceBuffer, DecisionCache, Vec<bool>), AllocError>
-    requires { 0 < setup.num_traces }
-    ensures buffer { IfOk result (λ held. held.0 ≡ record { episodes = []; num_traces = setup.num_traces }) }
-    ensures cache { IfOk result (λ held. held.1 ≡ empty_lists setup.sampled_cache_size setup.non_sampled_cache_size) }
-    ensures ends { IfOk result (λ held. held.2.items ≡ replicate setup.senders false) }
-{
-    let ends = vec![in alloc; false; setup.senders]?;
-    let cache = DecisionCache::new(
-        alloc,
-        setup.hashing,
-        setup.sampled_cache_size,
-        setup.non_sampled_cache_size,
-    )?;
-    let buffer = TraceBuffer::new(alloc, setup.hashing, setup.num_traces)?;
-    Ok((buffer, cache, ends))
 }
 
 /// Appends a span to its trace's episode, if there is memory.

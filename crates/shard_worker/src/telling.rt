@@ -1,13 +1,12 @@
 //! What a shard tells those who look at it while it runs. No contract rests on it.
-ghost use Rattle.std.specs.Prelude.{◌≡◌};
-ghost use Rattle.shard_worker.specs.Telling.{said_by};
-
-use decision_line::{DecidedTrace, EvictedTrace, Said};
+use decision_line::LateSpans;
 use lane_queue::{Brake, Receiver, Room};
 use otlp_types::{Item, Span};
-use policy_eval::{Answer, MOST_POLICIES};
-use shard_core::{Decided, Decision, DueTrace, Shard, Taken};
-use span_ids::{Moment, Verdict};
+use shard_core::{
+    Decided, Decision, DueTrace, Shard, Taken, told_answers, told_decision, told_evicted,
+    verdict_of_late,
+};
+use span_ids::{Moment, TraceId};
 use std::sync::Wait;
 use thread_watch::{ShardLoad, Watcher};
 
@@ -53,22 +52,42 @@ pub fn tell_taken<W: Watcher>(watcher: &W, taken: &Taken) {
     }
 }
 
-/// Tells of a trace that left the full buffer undecided, at this moment of the shard's clock.
-pub fn tell_evicted<W: Watcher, R: Wait>(rt: &R, watcher: &W, taken: &Taken, moment: Moment) {
-    if let Taken::Kept {
-        evicted: Some(evicted),
-        ..
-    } = taken
-    {
-        if evicted.verdict.is_none() && watcher.hears_decisions() {
-            let told = EvictedTrace {
-                trace: evicted.trace,
-                moment,
-                spans: evicted.spans,
-            };
-            watcher.trace_evicted(rt, &told);
-        }
+/// Tells of a trace that left the full buffer undecided, at this moment of the shard's clock, and of a span of this trace
+/// that came late.
+pub fn tell_fates<W: Watcher, R: Wait>(
+    rt: &R,
+    watcher: &W,
+    trace: Option<TraceId>,
+    taken: &Taken,
+    moment: Moment,
+) {
+    // So nothing is looked at where nobody hears.
+    let Some(trace) = trace else {
+        return;
+    };
+    if let Some(evicted) = told_evicted(taken, moment) {
+        watcher.trace_evicted(rt, &evicted);
     }
+    if let Some(verdict) = verdict_of_late(taken) {
+        let late = LateSpans {
+            trace,
+            moment,
+            verdict,
+            spans: 1,
+        };
+        watcher.spans_late(rt, &late);
+    }
+}
+
+/// The trace of an item, if it is a span and what becomes of it is to be told.
+pub fn heard_trace<W: Watcher>(watcher: &W, item: &Item) -> Option<TraceId> {
+    let Item::Span(arrival) = item else {
+        return None;
+    };
+    if !watcher.hears_decisions() {
+        return None;
+    }
+    Some(arrival.rec.span.get().ids?.trace)
 }
 
 /// Tells of a decision, and of the policy that decided; and of the trace and what each policy said of it, where that is
@@ -79,55 +98,17 @@ pub fn tell_decided<W: Watcher, R: Wait>(
     decision: &Decision,
     due: Option<DueTrace>,
 ) {
-    let verdict = match &decision.decided {
-        Decided::Release(_) => Verdict::Sampled,
-        Decided::Dropped(_) => Verdict::NotSampled,
+    let is_sampled = match &decision.decided {
+        Decided::Release(_) => true,
+        Decided::Dropped(_) => false,
         Decided::Nothing => return,
     };
-    watcher.decided(decision.decider, verdict == Verdict::Sampled);
-    if let Some(due) = due {
-        tell_trace(rt, watcher, decision, due, verdict);
-    }
-}
-
-/// Tells of a trace that was decided.
-fn tell_trace<W: Watcher, R: Wait>(
-    rt: &R,
-    watcher: &W,
-    decision: &Decision,
-    due: DueTrace,
-    verdict: Verdict,
-) {
-    let mut said = [Said::NotAsked; MOST_POLICIES];
-    let mut asked = 0;
-    for answer in decision.answers.as_slice() {
-        if asked < said.len() {
-            said[asked] = said_by(*answer);
-            asked += 1;
-        }
-    }
-    let told = DecidedTrace {
-        trace: due.trace,
-        moment: due.moment,
-        opened: due.opened,
-        spans: due.spans,
-        verdict,
-        cause: due.cause,
-        decider: decision.decider,
+    watcher.decided(decision.decider, is_sampled);
+    let Some(due) = due else {
+        return;
     };
-    watcher.trace_decided(rt, &told, &said[..asked.min(said.len())]);
-}
-
-/// What a policy said, by its answer.
-fn said_by(answer: Answer) -> Said
-    ensures { result ≡ said_by answer }
-{
-    match answer {
-        Answer::Sample => Said::Sampled,
-        Answer::NotSample => Said::NotSampled,
-        Answer::InvertedSample => Said::InvertedSampled,
-        Answer::InvertedNotSample => Said::InvertedNotSampled,
-        Answer::Dropped => Said::Dropped,
+    if let Some(told) = told_decision(decision, due) {
+        watcher.trace_decided(rt, &told, told_answers(&decision.answers).as_slice());
     }
 }
 

@@ -1,6 +1,6 @@
 //! What threads count and hold, told while they run.
 use crate::barrier::Barrier;
-use decision_line::{DecidedTrace, EvictedTrace, Said};
+use decision_line::{DecidedTrace, EvictedTrace, LateSpans, Said};
 use std::sync::Wait;
 
 /// What a shard holds.
@@ -30,7 +30,7 @@ pub trait Watcher {
     /// A shard has decided a trace, as sampled or not, by the policy at this place, from 0 on, if one decided.
     fn decided(&self, _decider: Option<usize>, _is_sampled: bool) {}
 
-    /// Whether each decided and each evicted trace is to be told.
+    /// Whether each decided and each evicted trace, and late spans, are to be told.
     fn hears_decisions(&self) -> bool {
         false
     }
@@ -40,6 +40,9 @@ pub trait Watcher {
 
     /// A trace has left the full buffer undecided.
     fn trace_evicted<R: Wait>(&self, _rt: &R, _evicted: &EvictedTrace) {}
+
+    /// A shard has taken late spans.
+    fn spans_late<R: Wait>(&self, _rt: &R, _late: &LateSpans) {}
 
     /// A shard hands over a span whose trace was decided before.
     fn handed_late(&self) {}

@@ -24,6 +24,7 @@ mod grammar;
 mod laws;
 mod limits;
 mod lines;
+mod pair;
 mod play;
 mod player;
 mod reads;
@@ -31,6 +32,7 @@ mod stop;
 
 pub use command::ScriptCommand;
 pub use laws::lines_are_their_words;
+pub use pair::Pair;
 pub use play::play_script;
 pub use player::ScriptPlayer;
 pub use reads::{ScriptRead, ScriptReads, ScriptSource};

@@ -8,7 +8,7 @@ use Rattle.http_lane.proofs.serving.submit.Goals as goal
 pub returns-then-not-count_reply : goal.returns-then-not-count_reply
 returns-then-not-count_reply g c = λ limit is_packed body is.
     let reply = c.submit-reply.result in
-    let cause = submitted c.args.text.now c.now.result reply c.args.says_close in
+    let cause = submitted c.args.text.now c.now-moment.result reply c.args.says_close in
     let took = c.submit-reply.ensures in
     let counts = c.if-not-count_reply.ensures.counts in
     let new = intake c.submit-reply.new.self c.submit-reply.new.conn (g.Ledger.Counter.counted c.count_reply.new.counts) in (
@@ -29,7 +29,7 @@ returns-then-not-count_reply g c = λ limit is_packed body is.
 pub returns : goal.returns
 returns g c = λ limit is_packed body is.
     let reply = c.submit-reply.result in
-    let cause = submitted c.args.text.now c.now.result reply c.args.says_close in
+    let cause = submitted c.args.text.now c.now-moment.result reply c.args.says_close in
     let took = c.submit-reply.ensures in
     let counts = c.if-not-count_reply.ensures.counts in (
       cause,
