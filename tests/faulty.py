@@ -62,7 +62,7 @@ ROWS = [
     ("no TOML behind letters of two bytes", f"lanes = 1\nlog = \"\u00fc\u00fc\" x\n{POLICIES}", ["not TOML; line 2, column 12 (fault 1)"]),
     ("a key twice", f"lanes = 1\nlanes = 2\n{POLICIES}", ["not TOML; line 2, column 1 (fault 1)"]),
     ("unknown keys", f"queue = 1\nPolicies = 2\n\"a b\" = 3\n\"\" = 4\na-b_9 = 5\n{POLICIES}", ['"": no such key (fault 2)', "Policies: no such key; `policies` is (fault 2)", '"a b": no such key (fault 2)', "a-b_9: no such key (fault 2)", "queue: no such key (fault 2)"]),
-    ("keys that are nearly there", f"decision_wait = 1\nroot_wait_s = 1\nnum_trace = 1\nmax_request_bytes = 1\nqueue_capcaity = 1\noutput_max = 1\ndecision = 1\ndecisions_max = 1\nlans = 1\nlone = 1\n{POLICIES}", [
+    ("keys that are nearly there", f"decision_wait = 1\nroot_wait_s = 1\nnum_trace = 1\nmax_request_bytes = 1\nqueue_capcaity = 1\noutput_max = 1\ndecision = 1\ndecisions_max = 1\nrecords = 1\nrecord_max = 1\nlans = 1\nlone = 1\n{POLICIES}", [
         "decision: no such key; `decisions` is (fault 2)",
         "decision_wait: no such key; `decision_wait_ms` is (fault 2)",
         "decisions_max: no such key; `decisions_max_mib` is (fault 2)",
@@ -72,6 +72,8 @@ ROWS = [
         "num_trace: no such key; `num_traces` is (fault 2)",
         "output_max: no such key; `output_max_mib` is (fault 2)",
         "queue_capcaity: no such key; `queue_capacity` is (fault 2)",
+        "record_max: no such key; `record_max_mib` is (fault 2)",
+        "records: no such key; `record` is (fault 2)",
         "root_wait_s: no such key; `root_wait_ms` is (fault 2)",
     ]),
     ("keys of the Collector", f"block_on_overflow = true\ndrop_pending_traces_on_shutdown = true\nendpoint = \"a\"\nexpected_new_traces_per_sec = 1\nlimit_mib = 1\nmax_request_body_size = 1\n"

@@ -30,7 +30,7 @@ def with_defaults(settings):
 
 
 def examples():
-    """Texts without `listen`, `admin`, `metrics`, `output` and `decisions`: one that sets next to nothing, one that sets parts of tables and the other name of a key, and two examples."""
+    """Texts without `listen`, `admin`, `metrics`, `output`, `decisions` and `record`: one that sets next to nothing, one that sets parts of tables and the other name of a key, and two examples."""
     yield ALL
     yield 'decision_wait_after_root_received_ms = 7\nnum_traces = 9\nqueue_full = "retry"\n' + ALL + f"[{CACHES}]\nnon_sampled_cache_size = 3\n"
     yield 'root_wait_ms = 1\nclose_at_end_of_input = false\n"tick_ms" = 0x10\n' + ALL.replace("all", "a\\u00fc\\\"b")
@@ -40,7 +40,7 @@ def examples():
         if export is not None:
             behind = next((number for number, line in enumerate(lines) if number > export and line.startswith("[")), len(lines))
             del lines[export:behind]
-        yield "".join(line for line in lines if not line.startswith(("listen ", "admin ", "metrics ", "output ", "decisions ", "close_at_end_of_input ")))
+        yield "".join(line for line in lines if not line.startswith(("listen ", "admin ", "metrics ", "output ", "decisions ", "record ", "close_at_end_of_input ")))
 
 
 def validated(program, folder, text):

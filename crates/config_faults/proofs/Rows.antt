@@ -48,6 +48,7 @@ ranges =
     ∷ record { key = codes "output_max_mib"; below = negsuc 0; lowest = 0; greatest = 1048576; above = 1048577 }
     ∷ record { key = codes "output_keep"; below = pos 0; lowest = 1; greatest = 1000; above = 1001 }
     ∷ record { key = codes "decisions_max_mib"; below = negsuc 0; lowest = 0; greatest = 1048576; above = 1048577 }
+    ∷ record { key = codes "record_max_mib"; below = negsuc 0; lowest = 0; greatest = 1048576; above = 1048577 }
     ∷ record { key = codes "tick_ms"; below = pos 0; lowest = 1; greatest = 60000; above = 60001 }
     ∷ []
 
@@ -109,12 +110,14 @@ second_address_is_a_text = refl
 abbrev pub one_text : (key text : List ℕ) → Members
 one_text key text = member key (string text) no_members
 
--- the paths of the output and of the decisions, and the address of numbers alone: any text, and nothing else
+-- the paths of the output, of the decisions and of the record, and the address of numbers alone: any text, and nothing
+-- else
 texts_of_any_form : map (each_setting_fault top_settings)
     (one_text (codes "output") [] ∷ one_text (codes "output") (codes "/var/log/tsc.jsonl") ∷ one_text (codes "decisions") [] ∷ one_text (codes "decisions") (codes "/var/log/decided.jsonl")
+    ∷ one_text (codes "record") [] ∷ one_text (codes "record") (codes "/var/log/came.txt")
     ∷ one_text (codes "metrics") [] ∷ one_text (codes "metrics") (codes "127.0.0.1:9464")
-    ∷ member (codes "output") (boolean true) no_members ∷ member (codes "decisions") (boolean true) no_members ∷ member (codes "metrics") (integer (pos 9464)) no_members ∷ [])
-    ≡ None ∷ None ∷ None ∷ None ∷ None ∷ None ∷ Some WrongType ∷ Some WrongType ∷ Some WrongType ∷ []
+    ∷ member (codes "output") (boolean true) no_members ∷ member (codes "decisions") (boolean true) no_members ∷ member (codes "record") (boolean true) no_members ∷ member (codes "metrics") (integer (pos 9464)) no_members ∷ [])
+    ≡ None ∷ None ∷ None ∷ None ∷ None ∷ None ∷ None ∷ None ∷ Some WrongType ∷ Some WrongType ∷ Some WrongType ∷ Some WrongType ∷ []
 texts_of_any_form = refl
 
 choices_allowed : map (each_setting_fault top_settings) (no_members

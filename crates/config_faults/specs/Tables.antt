@@ -41,6 +41,7 @@ number_row number_is.MaximumTraceSize = record { name = codes "maximum_trace_siz
 number_row number_is.OutputMax = record { name = codes "output_max_mib"; default = 0; lowest = 0; greatest = 1048576 }
 number_row number_is.OutputKeep = record { name = codes "output_keep"; default = 7; lowest = 1; greatest = 1000 }
 number_row number_is.DecisionsMax = record { name = codes "decisions_max_mib"; default = 0; lowest = 0; greatest = 1048576 }
+number_row number_is.RecordMax = record { name = codes "record_max_mib"; default = 0; lowest = 0; greatest = 1048576 }
 number_row number_is.Tick = record { name = codes "tick_ms"; default = 1000; lowest = 1; greatest = 60000 }
 number_row number_is.SampledCacheSize = record { name = codes "sampled_cache_size"; default = 0; lowest = 0; greatest = 1000000 }
 number_row number_is.NonSampledCacheSize = record { name = codes "non_sampled_cache_size"; default = 0; lowest = 0; greatest = 1000000 }
@@ -74,6 +75,7 @@ text_row text_is.Listen = record { name = codes "listen"; default = codes "127.0
 text_row text_is.Metrics = record { name = codes "metrics"; default = [] }
 text_row text_is.Output = record { name = codes "output"; default = [] }
 text_row text_is.Decisions = record { name = codes "decisions"; default = [] }
+text_row text_is.Record = record { name = codes "record"; default = [] }
 text_row text_is.OutputFault = record { name = codes "output_fault"; default = codes "discard" }
 text_row text_is.Log = record { name = codes "log"; default = codes "text" }
 
@@ -137,10 +139,12 @@ other_settings =
     ∷ number_setting number_is.OutputMax
     ∷ number_setting number_is.OutputKeep
     ∷ number_setting number_is.DecisionsMax
+    ∷ number_setting number_is.RecordMax
     ∷ text_setting text_is.Listen
     ∷ text_setting text_is.Metrics
     ∷ text_setting text_is.Output
     ∷ text_setting text_is.Decisions
+    ∷ text_setting text_is.Record
     ∷ log_setting text_is.Log
     ∷ switch (codes "accept_gzip")
     ∷ switch (codes "accept_protobuf")

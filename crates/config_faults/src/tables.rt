@@ -24,6 +24,7 @@ pub enum NumberKey {
     OutputMax,
     OutputKeep,
     DecisionsMax,
+    RecordMax,
     Tick,
     SampledCacheSize,
     NonSampledCacheSize,
@@ -61,6 +62,7 @@ impl NumberKey {
             NumberKey::OutputMax => ("output_max_mib", 0, 0, 1_048_576),
             NumberKey::OutputKeep => ("output_keep", 7, 1, 1000),
             NumberKey::DecisionsMax => ("decisions_max_mib", 0, 0, 1_048_576),
+            NumberKey::RecordMax => ("record_max_mib", 0, 0, 1_048_576),
             NumberKey::Tick => ("tick_ms", 1000, 1, 60_000),
             NumberKey::SampledCacheSize => ("sampled_cache_size", 0, 0, 1_000_000),
             NumberKey::NonSampledCacheSize => ("non_sampled_cache_size", 0, 0, 1_000_000),
@@ -105,6 +107,7 @@ pub enum TextKey {
     Metrics,
     Output,
     Decisions,
+    Record,
     OutputFault,
     Log,
 }
@@ -120,6 +123,7 @@ impl TextKey {
             TextKey::Metrics => ("metrics", ""),
             TextKey::Output => ("output", ""),
             TextKey::Decisions => ("decisions", ""),
+            TextKey::Record => ("record", ""),
             TextKey::OutputFault => ("output_fault", "discard"),
             TextKey::Log => ("log", "text"),
         }
@@ -127,7 +131,7 @@ impl TextKey {
 }
 
 /// The settings of a configuration that are no tables.
-pub fn top_settings() -> [Setting; 30]
+pub fn top_settings() -> [Setting; 32]
     ensures { map spec.setting_of result ≡ spec.top_settings }
 {
     [
@@ -148,10 +152,12 @@ pub fn top_settings() -> [Setting; 30]
         number_setting(NumberKey::OutputMax),
         number_setting(NumberKey::OutputKeep),
         number_setting(NumberKey::DecisionsMax),
+        number_setting(NumberKey::RecordMax),
         text_setting(TextKey::Listen),
         text_setting(TextKey::Metrics),
         text_setting(TextKey::Output),
         text_setting(TextKey::Decisions),
+        text_setting(TextKey::Record),
         log_setting(TextKey::Log),
         Setting::Default("accept_gzip", ValueKind::Truth, DefaultValue::Off),
         Setting::Default("accept_protobuf", ValueKind::Truth, DefaultValue::Off),

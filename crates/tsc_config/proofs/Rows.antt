@@ -20,7 +20,7 @@ use Rattle.tsc_config.specs.declared.exports.ExportEncoding.TheVariants as encod
 -- the numbers of a configuration: those of the table, and of `decision_cache`
 abbrev numbers_of : Config → List ℕ
 numbers_of c =
-    c.decision_wait ∷ c.root_wait ∷ c.num_traces ∷ c.lanes ∷ c.shards ∷ c.queue_capacity ∷ c.export_capacity ∷ c.send_batch_size ∷ c.max_connections ∷ c.memory_limit_mib ∷ c.max_request_mib ∷ c.maximum_trace_size ∷ c.tick ∷ c.output_max_mib ∷ c.output_keep ∷ c.decisions_max_mib
+    c.decision_wait ∷ c.root_wait ∷ c.num_traces ∷ c.lanes ∷ c.shards ∷ c.queue_capacity ∷ c.export_capacity ∷ c.send_batch_size ∷ c.max_connections ∷ c.memory_limit_mib ∷ c.max_request_mib ∷ c.maximum_trace_size ∷ c.tick ∷ c.output_max_mib ∷ c.output_keep ∷ c.decisions_max_mib ∷ c.record_max_mib
     ∷ c.sampled_cache_size ∷ c.non_sampled_cache_size ∷ []
 
 -- a table with all keys, each with one of its numbers
@@ -31,7 +31,7 @@ members_of number (r ∷ rows) rest = member r.key (integer (pos (number r))) (m
 abbrev table_of : (Range → ℕ) → Members
 table_of number = members_of number ranges (member (codes "decision_cache") (table (members_of number cache_ranges no_members)) no_members)
 
-defaults : numbers_of (config_of no_members) ≡ 30000 ∷ 0 ∷ 50000 ∷ 1 ∷ 1 ∷ 1024 ∷ 1024 ∷ 512 ∷ 1024 ∷ 0 ∷ 4 ∷ 0 ∷ 1000 ∷ 0 ∷ 7 ∷ 0 ∷ 0 ∷ 0 ∷ []
+defaults : numbers_of (config_of no_members) ≡ 30000 ∷ 0 ∷ 50000 ∷ 1 ∷ 1 ∷ 1024 ∷ 1024 ∷ 512 ∷ 1024 ∷ 0 ∷ 4 ∷ 0 ∷ 1000 ∷ 0 ∷ 7 ∷ 0 ∷ 0 ∷ 0 ∷ 0 ∷ []
 defaults = refl
 
 no_second_address_by_default : (config_of no_members).admin ≡ []
@@ -54,15 +54,16 @@ at_output_fault : map (λ members. (config_of members).output_fault)
     ≡ output_is.Discard ∷ output_is.Discard ∷ output_is.Stop ∷ output_is.Retry ∷ []
 at_output_fault = refl
 
--- the paths of the output and of the decisions, and the address of numbers alone: nothing by default, and each by its
--- own key
+-- the paths of the output, of the decisions and of the record, and the address of numbers alone: nothing by default, and
+-- each by its own key
 texts_of : Config → List (List ℕ)
-texts_of c = c.output ∷ c.decisions ∷ c.metrics ∷ c.admin ∷ []
+texts_of c = c.output ∷ c.decisions ∷ c.request_record ∷ c.metrics ∷ c.admin ∷ []
 
 own_texts : map (λ members. texts_of (config_of members))
-    (no_members ∷ one_text (codes "output") (codes "a") ∷ one_text (codes "decisions") (codes "d") ∷ one_text (codes "metrics") (codes "b") ∷ one_text (codes "admin") (codes "c") ∷ [])
-    ≡ ([] ∷ [] ∷ [] ∷ [] ∷ [])
-    ∷ (codes "a" ∷ [] ∷ [] ∷ [] ∷ []) ∷ ([] ∷ codes "d" ∷ [] ∷ [] ∷ []) ∷ ([] ∷ [] ∷ codes "b" ∷ [] ∷ []) ∷ ([] ∷ [] ∷ [] ∷ codes "c" ∷ []) ∷ []
+    (no_members ∷ one_text (codes "output") (codes "a") ∷ one_text (codes "decisions") (codes "d") ∷ one_text (codes "record") (codes "e") ∷ one_text (codes "metrics") (codes "b") ∷ one_text (codes "admin") (codes "c") ∷ [])
+    ≡ ([] ∷ [] ∷ [] ∷ [] ∷ [] ∷ [])
+    ∷ (codes "a" ∷ [] ∷ [] ∷ [] ∷ [] ∷ []) ∷ ([] ∷ codes "d" ∷ [] ∷ [] ∷ [] ∷ []) ∷ ([] ∷ [] ∷ codes "e" ∷ [] ∷ [] ∷ [])
+    ∷ ([] ∷ [] ∷ [] ∷ codes "b" ∷ [] ∷ []) ∷ ([] ∷ [] ∷ [] ∷ [] ∷ codes "c" ∷ []) ∷ []
 unfolding texts_of
 own_texts = refl
 
@@ -128,10 +129,10 @@ chosen : map (λ members. choices_of (config_of members)) (no_members
 chosen = refl
 
 -- each key gives its own number
-lowest_values : numbers_of (config_of (table_of (λ r. r.lowest))) ≡ 1 ∷ 0 ∷ 1 ∷ 1 ∷ 1 ∷ 1 ∷ 1 ∷ 1 ∷ 1 ∷ 0 ∷ 1 ∷ 0 ∷ 1 ∷ 0 ∷ 1 ∷ 0 ∷ 0 ∷ 0 ∷ []
+lowest_values : numbers_of (config_of (table_of (λ r. r.lowest))) ≡ 1 ∷ 0 ∷ 1 ∷ 1 ∷ 1 ∷ 1 ∷ 1 ∷ 1 ∷ 1 ∷ 0 ∷ 1 ∷ 0 ∷ 1 ∷ 0 ∷ 1 ∷ 0 ∷ 0 ∷ 0 ∷ 0 ∷ []
 lowest_values = refl
 
-greatest_values : numbers_of (config_of (table_of (λ r. r.greatest))) ≡ 3600000 ∷ 3600000 ∷ 1000000 ∷ 64 ∷ 64 ∷ 65536 ∷ 65536 ∷ 8192 ∷ 65536 ∷ 1048576 ∷ 64 ∷ 1073741824 ∷ 60000 ∷ 1048576 ∷ 1000 ∷ 1048576 ∷ 1000000 ∷ 1000000 ∷ []
+greatest_values : numbers_of (config_of (table_of (λ r. r.greatest))) ≡ 3600000 ∷ 3600000 ∷ 1000000 ∷ 64 ∷ 64 ∷ 65536 ∷ 65536 ∷ 8192 ∷ 65536 ∷ 1048576 ∷ 64 ∷ 1073741824 ∷ 60000 ∷ 1048576 ∷ 1000 ∷ 1048576 ∷ 1048576 ∷ 1000000 ∷ 1000000 ∷ []
 greatest_values = refl
 
 abbrev own_numbers : Members
@@ -152,9 +153,10 @@ own_numbers =
     (member (codes "output_max_mib") (integer (pos 53))
     (member (codes "output_keep") (integer (pos 59))
     (member (codes "decisions_max_mib") (integer (pos 61))
-    (member (codes "decision_cache") (table (member (codes "sampled_cache_size") (integer (pos 29)) (member (codes "non_sampled_cache_size") (integer (pos 31)) no_members))) no_members))))))))))))))))
+    (member (codes "record_max_mib") (integer (pos 67))
+    (member (codes "decision_cache") (table (member (codes "sampled_cache_size") (integer (pos 29)) (member (codes "non_sampled_cache_size") (integer (pos 31)) no_members))) no_members)))))))))))))))))
 
-own_values : numbers_of (config_of own_numbers) ≡ 2 ∷ 3 ∷ 5 ∷ 7 ∷ 11 ∷ 13 ∷ 17 ∷ 19 ∷ 37 ∷ 41 ∷ 47 ∷ 43 ∷ 23 ∷ 53 ∷ 59 ∷ 61 ∷ 29 ∷ 31 ∷ []
+own_values : numbers_of (config_of own_numbers) ≡ 2 ∷ 3 ∷ 5 ∷ 7 ∷ 11 ∷ 13 ∷ 17 ∷ 19 ∷ 37 ∷ 41 ∷ 47 ∷ 43 ∷ 23 ∷ 53 ∷ 59 ∷ 61 ∷ 67 ∷ 29 ∷ 31 ∷ []
 own_values = refl
 
 -- the wait from a root on by each of its two names, and by neither

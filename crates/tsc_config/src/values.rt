@@ -29,7 +29,7 @@ pub fn root_wait_at(table: &Table) -> u64
     }
 }
 
-/// The addresses of a collector, and the paths of its output and of its decisions.
+/// The addresses of a collector, and the paths of its output, of its decisions and of its record.
 #[derive(Drop)]
 pub struct Places {
     /// Where requests are taken.
@@ -42,15 +42,18 @@ pub struct Places {
     pub output: Text,
     /// The file of the lines about decided traces.
     pub decisions: Text,
+    /// The file of the requests that are taken.
+    pub request_record: Text,
 }
 
-/// The addresses of a collector, and the paths of its output and of its decisions.
+/// The addresses of a collector, and the paths of its output, of its decisions and of its record.
 pub fn places_at(alloc: Global, table: &Table) -> Result<Places, AllocError>
     ensures listen { IfOk result (λ places. places.listen ≡ spec.address_of (codes "127.0.0.1:4318") (get_member (codes "listen") (table_view table.now))) }
     ensures admin { IfOk result (λ places. places.admin ≡ spec.address_of [] (get_member (codes "admin") (table_view table.now))) }
     ensures metrics { IfOk result (λ places. places.metrics ≡ spec.address_of [] (get_member (codes "metrics") (table_view table.now))) }
     ensures output { IfOk result (λ places. places.output ≡ spec.address_of [] (get_member (codes "output") (table_view table.now))) }
     ensures decisions { IfOk result (λ places. places.decisions ≡ spec.address_of [] (get_member (codes "decisions") (table_view table.now))) }
+    ensures request_record { IfOk result (λ places. places.request_record ≡ spec.address_of [] (get_member (codes "record") (table_view table.now))) }
 {
     Ok(Places {
         listen: address_at(alloc, table, "listen", "127.0.0.1:4318")?,
@@ -58,6 +61,7 @@ pub fn places_at(alloc: Global, table: &Table) -> Result<Places, AllocError>
         metrics: address_at(alloc, table, "metrics", "")?,
         output: address_at(alloc, table, "output", "")?,
         decisions: address_at(alloc, table, "decisions", "")?,
+        request_record: address_at(alloc, table, "record", "")?,
     })
 }
 
