@@ -17,3 +17,4 @@ pub mod Finish
 pub mod Leading
 pub mod CalmReplays
 pub mod From
+pub mod Comparing

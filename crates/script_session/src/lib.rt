@@ -8,6 +8,7 @@
 //! ```
 #![tactic(auto)]
 
+mod comparing;
 mod connections;
 mod ending;
 mod fault;
@@ -21,6 +22,7 @@ mod session;
 mod signal;
 mod taking;
 
+pub use comparing::{ComparedRuns, Discards, compare_run};
 pub use fault::ReplayFault;
 pub use laws::calm_replays_agree;
 pub use listening::{Listener, Unheard};

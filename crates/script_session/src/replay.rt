@@ -1,5 +1,6 @@
 //! A script is run in one thread.
-ghost use Rattle.std.specs.Prelude.{◌≡◌, ◌-◌, ◌^◌, ◌<◌, ◌≤◌, [], false, Some, IfOk, replicate, vec_capacity};
+ghost use Rattle.std.specs.Prelude.{◌≡◌, ◌-◌, ◌^◌, ◌<◌, ◌≤◌, [], false, Some, IfOk, IfErr, replicate, vec_capacity};
+ghost use Rattle.span_sink.specs.LineSinks.{up_state};
 ghost use Rattle.policy_tree.specs.Meaning.{meaning};
 ghost use Rattle.rate_budget.specs.Budget.{limiter_counts};
 ghost use Rattle.config_shards.specs.Shards.{CanReplay, settings_by};
@@ -12,7 +13,7 @@ ghost use Rattle.script_session.specs.Replay.{RunEnds};
 
 use crate::connections::Connections;
 use crate::fault::ReplayFault;
-use crate::listening::Unheard;
+use crate::listening::{Listener, Unheard};
 use crate::output::Output;
 use crate::replying::MAX_REPLY_LINE;
 use crate::session::Session;
@@ -55,14 +56,43 @@ pub fn replay_run<R: ScriptSource, S: Sink>(
       unread_after = R.given reader.new;
     }) result.1 }
 {
+    match session_of(alloc, &config, sink, Unheard) {
+        Ok(session) => {
+            release(config);
+            run_session(alloc, reader, session)
+        }
+        Err(sink) => (sink, Err(ReplayFault::NoMemory)),
+    }
+}
+
+/// A session that has seen no line. `Err`: memory was refused, and the sink is as it was.
+pub(crate) fn session_of<S: Sink, L: Listener + Drop>(
+    alloc: Global,
+    config: &Config,
+    sink: S,
+    listener: L,
+) -> Result<Session<S, L>, S>
+    requires ranges { CanReplay config.now }
+    requires failures { S.failures sink < 2 ^ 64 - 1 }
+    ensures open { IfOk result (λ session. session.closed ≡ false) }
+    ensures sink { IfOk result (λ session. session.output.0.sink ≡ up_state (S.taken sink) (S.failures sink)) }
+    ensures nothing_counted { IfOk result (λ session. session.output.1 ≡ Some (replicate 9 0)) }
+    ensures batch { IfOk result (λ session. session.output.0.size ≡ config.now.send_batch_size) }
+    ensures queue { IfOk result (λ session. session.queue_capacity ≡ config.now.queue_capacity) }
+    ensures doubles { IfOk result (λ session. session.keeps_doubles ≡ config.now.keeps_doubles) }
+    ensures connections { IfOk result (λ session. session.connections ≡ record { connections = []; connected = replicate config.now.lanes 0 }) }
+    ensures shards { IfOk result (λ session. AreNew config.now config.now.shards session.shards.items) }
+    ensures limiter { IfOk result (λ session. session.limiter ≡ limiter_counts (meaning config.now.policies) []) }
+    ensures refused { IfErr result (λ back. (S.taken back ≡ S.taken sink) × (S.failures back ≡ S.failures sink)) }
+{
     let lines = LineSink::new(sink);
-    let Ok(parts) = parts_of(alloc, &config) else {
-        return (lines.end(), Err(ReplayFault::NoMemory));
+    let Ok(parts) = parts_of(alloc, config) else {
+        return Err(lines.end());
     };
     // Of one shard: a session pulls no shard's `End`, so their number is no matter.
     let exporter = match Exporter::new(alloc, config.send_batch_size, 1, lines) {
         Ok(exporter) => exporter,
-        Err((lines, _)) => return (lines.end(), Err(ReplayFault::NoMemory)),
+        Err((lines, _)) => return Err(lines.end()),
     };
     let RunParts {
         connections,
@@ -71,7 +101,7 @@ pub fn replay_run<R: ScriptSource, S: Sink>(
         limiter,
         text,
     } = parts;
-    let session = Session {
+    Ok(Session {
         alloc,
         connections,
         queues,
@@ -80,12 +110,10 @@ pub fn replay_run<R: ScriptSource, S: Sink>(
         shards,
         limiter,
         output: Output::new(exporter),
-        listener: Unheard,
+        listener,
         text,
         closed: false,
-    };
-    release(config);
-    run_session(alloc, reader, session)
+    })
 }
 
 /// Lets the configuration go before the script is run: the session has taken what it needs.

@@ -6,7 +6,7 @@ use Rattle.script_session.specs.Pulling.{AreQuiet, ends_of}
 use Rattle.config_shards.specs.Shards.{settings_by}
 use Rattle.script_session.proofs.Nodes.{nodes-new}
 use Rattle.script_session.proofs.Quiet.{none-due-now, ends-now}
-use Rattle.script_session.proofs.replay.replay_run.Goals as goal
+use Rattle.script_session.proofs.replay.session_of.Goals as goal
 
 pub invariant_of-session-clause-none_due : goal.invariant_of-session-clause-none_due
 invariant_of-session-clause-none_due g c =

@@ -1,0 +1,59 @@
+-- What a script that was played on one of two sessions led to.
+-- For the contract of `run_both`.
+use Rattle.std.proofs.Common.{◌≡◌, ℕ, Bool, true, false, List, [], ◌∷◌, Option, Some, None, refl, sym, ap, subst, ◌∙◌, replicate}
+use Rattle.std.specs.Prelude.{not}
+use Rattle.drop_ledger.specs.declared.report.Report.{Report}
+use Rattle.rate_budget.specs.Budget.{LimiterCount}
+use Rattle.journal_theory.specs.Journal.{Settings}
+use Rattle.shard_core.specs.Held.{Held}
+use Rattle.span_sink.specs.LineSinks.{LineSinkState, up_state}
+use Rattle.config_shards.specs.Shards.{settings_by}
+use Rattle.tsc_config.specs.declared.config.Config.{Config}
+use Rattle.tsc_script.specs.Instructions.{Instruction}
+use Rattle.tsc_script.specs.Reads.{KnownReader}
+use Rattle.script_run.specs.Connections.{Contacts}
+use Rattle.script_run.specs.Counts.{Reports}
+use Rattle.script_run.specs.Laws.{CanPlay}
+use Rattle.script_run.specs.World.{ScriptWorld, Sizes, new_world, PlaysAll}
+use Rattle.script_session.specs.Comparing.{discarded_run, sizes_of}
+use Rattle.script_session.specs.Pulling.{Export, AreOf}
+use Rattle.script_session.specs.Replay.{ReplayRun, ClosesWith}
+use Rattle.script_session.specs.Starting.{IsStart}
+use Rattle.script_session.proofs.Leading.{leads_to}
+use Rattle.script_session.proofs.Numbers.{Reports-new}
+
+-- these instructions lead a session to these parts
+abbrev pub LeadsTo : Contacts → List Held → List LimiterCount → Export → (queue : ℕ) → (keeps_doubles closed : Bool) → List Instruction → Contacts → List Held → List LimiterCount → Export → (closed_after : Bool) → Type 0
+LeadsTo contacts shards limiter output queue keeps_doubles closed played contacts_after shards_after limiter_after output_after closed_after =
+    (s : Settings) (w : ScriptWorld) → AreOf s w contacts shards limiter output closed
+    → (after : ScriptWorld) × PlaysAll s (record { batch = output.0.size; queue = queue; keeps_doubles = keeps_doubles }) w played after
+    × AreOf s after contacts_after shards_after limiter_after output_after closed_after
+
+pub closes-alone : (config : Config) (unread unread_after : KnownReader) (contacts : Contacts) (shards : List Held) (limiter : List LimiterCount) (output : Export) (queue : ℕ) (keeps_doubles closed : Bool) (played : List Instruction)
+    (contacts_after : Contacts) (shards_after : List Held) (limiter_after : List LimiterCount) (output_after : Export) (closed_after : Bool) (numbers : Report)
+    → CanPlay (settings_by config) (sizes_of config) config.lanes → IsStart config None 0 contacts shards limiter output queue keeps_doubles closed
+    → LeadsTo contacts shards limiter output queue keeps_doubles closed played contacts_after shards_after limiter_after output_after closed_after
+    → closed_after ≡ true → output_after.0.sink ≡ up_state None 0 → output_after.1 ≡ Some numbers
+    → ClosesWith (discarded_run config unread unread_after) (up_state None 0) (Some numbers) played
+closes-alone config unread unread_after contacts shards limiter output queue keeps_doubles closed played contacts_after shards_after limiter_after output_after closed_after numbers can is leads is_closed sink_is report_is =
+    let s = settings_by config in
+    let first : LineSinkState = up_state None 0 in
+    let start = new_world config.lanes config.shards first in
+    let R = λ (report : Option (List ℕ)). Reports s start report in
+    let starts : AreOf s start contacts shards limiter output closed = record {
+      contacts_are = is.contacts_are;
+      settings_are = is.shards_are.1;
+      released_all = is.shards_are.3;
+      limiter_is = is.limiter_is;
+      sink_is = is.sink_is;
+      reports = subst R (sym is.nothing_counted) (Reports-new s config.lanes config.shards first);
+      closed_is = is.is_open;
+    } in
+    let r = leads s start starts in
+    let sizes : Sizes = sizes_of config in
+    let B = λ (n : ℕ). PlaysAll s (record { batch = n; queue = queue; keeps_doubles = keeps_doubles }) start played r.0 in
+    let Q = λ (n : ℕ). PlaysAll s (record { batch = config.send_batch_size; queue = n; keeps_doubles = keeps_doubles }) start played r.0 in
+    let K = λ (b : Bool). PlaysAll s (record { batch = config.send_batch_size; queue = config.queue_capacity; keeps_doubles = b }) start played r.0 in
+    let plays : PlaysAll s sizes start played r.0 = subst K is.doubles_are (subst Q is.queue_is (subst B is.batch_is r.1)) in
+    leads_to s sizes config.lanes config.shards first played (up_state None 0) (Some numbers) can refl r.0 plays (sym r.2.sink_is ∙ sink_is)
+    (subst (λ (report : Option (List ℕ)). Reports s r.0 report) report_is r.2.reports) true (sym r.2.closed_is ∙ is_closed)
