@@ -10,5 +10,5 @@ push-requires c =
     let items = c.as_slice-answer-items.result.now in
     let place = c.loop-answer.answer-index in
     let said : length c.loop-answer.said.items ≡ place =
-        ap (λ xs. length xs) c.loop-answer.invariant ∙ length-map (take place items) said_by ∙ length-take-le place items c.loop-answer.auto.answer-index-end in
+    ap (λ xs. length xs) c.loop-answer.invariant ∙ length-map (take place items) said_by ∙ length-take-le place items c.loop-answer.auto.answer-index-end in
     (omega arith, omega (arith, said, c.loop-answer-test.true, c.as_slice-answer-items.ensures.fits))
