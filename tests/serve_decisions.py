@@ -93,6 +93,28 @@ def each_cause(start):
         want("those of the close", [(it["traceId"][-1], it["by"], it["policy"], it["spans"]) for it in read(path)[3:]], [("5", "close", "all", 2), ("6", "close", "all", 2)])
 
 
+def late_spans(start):
+    """Spans that come after their trace was decided have lines: how many, of which trace, and the verdict that they met; each span stands in one."""
+    with tempfile.TemporaryDirectory() as folder:
+        path = os.path.join(folder, "decisions.jsonl")
+        collector = start(f'decisions = "{path}"\nshards = 2\ndecision_wait_ms = 20\ntick_ms = 10\n' + THREE)
+        for number, is_error in ((1, True), (2, False)):
+            collector.ask(post(body_of(trace(number, is_error, False, False))))
+        comes_to("the decisions", lambda: sorted(int(it["traceId"], 16) for it in read(path)) if os.path.exists(path) else [], [1, 2])
+        late = {1: 7, 2: 5}
+        for spans in (1, 2, 4):
+            collector.ask(post(body_of(trace(1, True, False, False, spans=spans))))
+        collector.ask(post(body_of(trace(2, False, False, False, spans=2) + trace(2, False, False, False, spans=3))))
+        sums = lambda: {number: sum(it["spans"] for it in read(path)[2:] if int(it["traceId"], 16) == number) for number in late}
+        comes_to("the late spans", sums, late)
+        for it in read(path)[2:]:
+            want("the keys", list(it), ["traceId", "moment", "verdict", "by", "spans"])
+            want("what it says", (it["verdict"], it["by"]), ("sampled" if int(it["traceId"], 16) == 1 else "notSampled", "late"))
+        _, numbers = collector.close()
+        want("the report", numbers, [14, 8, 0, 0, 0, 0, 1, 5, 0])
+        want("nothing more", sums(), late)
+
+
 def rotated(start):
     """The file is opened anew where it is asked for, and put aside by its size: no line is torn, lost or told twice."""
     with tempfile.TemporaryDirectory() as folder:
@@ -159,4 +181,4 @@ def decisions_of_a_full_disk(start):
     want("what is said at the end", ["lines=20" in it for it in said], [True])
 
 
-CHECKS = [each_decided, each_cause, rotated, all_at_the_close, decisions_cannot_be_written, decisions_of_a_full_disk]
+CHECKS = [each_decided, each_cause, late_spans, rotated, all_at_the_close, decisions_cannot_be_written, decisions_of_a_full_disk]

@@ -1,7 +1,7 @@
 //! What all threads of a run have counted, for readers while it runs.
 use crate::decision_queue::{DecisionQueue, TraceNews};
 use batch_post::AttemptOutcome;
-use decision_line::{DecidedTrace, EvictedTrace, Said};
+use decision_line::{DecidedTrace, EvictedTrace, LateSpans, Said};
 use drop_ledger::{Count, Report};
 use event_log::Level;
 use lane_queue::Brake;
@@ -440,6 +440,12 @@ impl Watcher for Board {
     fn trace_evicted<R: Wait>(&self, rt: &R, trace: &EvictedTrace) {
         if let Some(queue) = &self.decisions {
             queue.put(rt, TraceNews::Evicted(*trace));
+        }
+    }
+
+    fn spans_late<R: Wait>(&self, rt: &R, late: &LateSpans) {
+        if let Some(queue) = &self.decisions {
+            queue.put(rt, TraceNews::Late(*late));
         }
     }
 

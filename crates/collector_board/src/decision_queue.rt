@@ -1,12 +1,12 @@
 //! What shards tell of their decisions, until it is written.
 use crossbeam_queue::ArrayQueue;
-use decision_line::{DecidedTrace, EvictedTrace, Said};
+use decision_line::{DecidedTrace, EvictedTrace, LateSpans, Said};
 use policy_eval::MOST_POLICIES;
 use std::alloc::{AllocError, Global};
 use std::sync::Wait;
 use std::sync::atomic::{AtomicU64, Ordering};
 
-/// At most this many decisions wait until they are written, some 12 MiB.
+/// At most this many decisions wait until they are written, some 10 MiB.
 const MOST_WAITING: usize = 65_536;
 
 /// What became of a trace.
@@ -20,6 +20,8 @@ pub enum TraceNews {
     },
     /// It left the full buffer undecided.
     Evicted(EvictedTrace),
+    /// Spans of it came late.
+    Late(LateSpans),
 }
 
 impl TraceNews {

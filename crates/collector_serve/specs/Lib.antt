@@ -4,9 +4,11 @@
 -- Moments: which moment it is, by the time that has passed.
 -- Told: what those in charge are told.
 -- Memory: when requests are refused since the process takes too much memory.
+-- LateRuns: late spans that are told together.
 pub mod Sharing
 pub mod Driven
 pub mod Requests
 pub mod Moments
 pub mod Told
 pub mod Memory
+pub mod LateRuns

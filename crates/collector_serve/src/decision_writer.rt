@@ -1,9 +1,10 @@
 //! The thread that writes a line for each decided and each evicted trace.
 use crate::charge::Charge;
+use crate::late_run::LateRun;
 use collector_board::{DecisionQueue, TraceNews};
-use decision_line::{put_decided, put_evicted};
+use decision_line::{LateSpans, put_decided, put_evicted, put_late};
 use http_lane::HasStopMark;
-use std::alloc::{AllocError, Global};
+use std::alloc::Global;
 use std::io::{ErrorKind, Write};
 use std::sync::{Arc, Wait};
 use std::thread::{JoinHandle, Threads};
@@ -19,7 +20,7 @@ const MOST_BYTES: usize = 262_144;
 /// The most writes in a row.
 const MOST_WRITES: u32 = 1_024;
 
-/// Writes a line for each decided and each evicted trace, until the run is over and none waits. `None`: none is written.
+/// Writes a line for each decided and each evicted trace, and for late spans, until the run is over and none waits. `None`: none is written.
 #[derive(Drop)]
 pub struct DecisionWriter {
     thread: Option<JoinHandle<()>>,
@@ -111,11 +112,12 @@ fn lose_all<R: Wait>(rt: &R, queue: &DecisionQueue) {
     }
 }
 
-/// Lines that were made, and how many of their bytes are written.
+/// Lines that were made, how many of their bytes are written, and late spans that have no line yet.
 #[derive(Drop)]
 struct LinesToWrite {
     text: Vec<u8>,
     written: usize,
+    late: LateRun,
 }
 
 impl LinesToWrite {
@@ -124,6 +126,7 @@ impl LinesToWrite {
         LinesToWrite {
             text: Vec::new(alloc),
             written: 0,
+            late: LateRun::none(),
         }
     }
 
@@ -134,23 +137,48 @@ impl LinesToWrite {
                 return true;
             }
             let Some(news) = queue.take(rt) else {
+                self.put_run(queue);
                 return false;
             };
-            if self.put(&news, names).is_err() {
-                queue.loses(1);
-            }
+            self.put(queue, &news, names);
         }
         unreachable!()
     }
 
-    /// Makes the line of a trace. `Err`: there is no memory for it.
-    fn put(&mut self, news: &TraceNews, names: &[String]) -> Result<(), AllocError> {
-        match news {
+    /// Makes the line of a trace. A late span has none of its own: it is counted with those of its trace that came right
+    /// before it.
+    fn put(&mut self, queue: &DecisionQueue, news: &TraceNews, names: &[String]) {
+        if let TraceNews::Late(late) = news {
+            if let Some(before) = self.late.with(*late) {
+                self.put_late(queue, &before);
+            }
+            return;
+        }
+        self.put_run(queue);
+        let put = match news {
             TraceNews::Decided { trace, said, asked } => {
                 let asked = (*asked).min(said.len());
                 put_decided(&mut self.text, names, &said[..asked], trace)
             }
             TraceNews::Evicted(trace) => put_evicted(&mut self.text, trace),
+            TraceNews::Late(_) => Ok(()),
+        };
+        if put.is_err() {
+            queue.loses(1);
+        }
+    }
+
+    /// Makes the line of late spans.
+    fn put_late(&mut self, queue: &DecisionQueue, late: &LateSpans) {
+        if put_late(&mut self.text, late).is_err() {
+            queue.loses(1);
+        }
+    }
+
+    /// Makes the line of late spans that have none, if there are some.
+    fn put_run(&mut self, queue: &DecisionQueue) {
+        if let Some(late) = self.late.end() {
+            self.put_late(queue, &late);
         }
     }
 

@@ -17,6 +17,7 @@ mod decision_file;
 mod decision_writer;
 mod event_writer;
 mod history;
+mod late_run;
 mod log_watch;
 mod memory_rule;
 mod memory_watch;

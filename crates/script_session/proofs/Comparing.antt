@@ -1,13 +1,13 @@
 -- What a script that was played on one of two sessions led to.
 -- For the contract of `run_both`.
-use Rattle.std.proofs.Common.{◌≡◌, ℕ, Bool, true, false, List, [], ◌∷◌, Option, Some, None, refl, sym, ap, subst, ◌∙◌, replicate}
+use Rattle.std.proofs.Common.{◌≡◌, ℕ, Bool, true, false, List, [], ◌∷◌, Option, Some, None, refl, sym, ap, subst, ◌∙◌, replicate, rules}
 use Rattle.std.specs.Prelude.{not}
 use Rattle.drop_ledger.specs.declared.report.Report.{Report}
 use Rattle.rate_budget.specs.Budget.{LimiterCount}
 use Rattle.journal_theory.specs.Journal.{Settings}
 use Rattle.shard_core.specs.Held.{Held}
 use Rattle.span_sink.specs.LineSinks.{LineSinkState, up_state}
-use Rattle.config_shards.specs.Shards.{settings_by}
+use Rattle.config_shards.specs.Shards.{CanReplay, settings_by}
 use Rattle.tsc_config.specs.declared.config.Config.{Config}
 use Rattle.tsc_script.specs.Instructions.{Instruction}
 use Rattle.tsc_script.specs.Reads.{KnownReader}
@@ -57,3 +57,16 @@ closes-alone config unread unread_after contacts shards limiter output queue kee
     let plays : PlaysAll s sizes start played r.0 = subst K is.doubles_are (subst Q is.queue_is (subst B is.batch_is r.1)) in
     leads_to s sizes config.lanes config.shards first played (up_state None 0) (Some numbers) can refl r.0 plays (sym r.2.sink_is ∙ sink_is)
     (subst (λ (report : Option (List ℕ)). Reports s r.0 report) report_is r.2.reports) true (sym r.2.closed_is ∙ is_closed)
+
+-- a configuration by which a script can be replayed
+pub can-play : (config : Config) → CanReplay config → CanPlay (settings_by config) (sizes_of config) config.lanes
+can-play config can = record { some_lane = can.some_lane; senders = refl; batch = can.batch; keeps = search rules }
+
+-- the sizes of a session
+abbrev pub session_sizes : (batch queue : ℕ) → (keeps_doubles : Bool) → Sizes
+session_sizes batch queue keeps_doubles = record { batch = batch; queue = queue; keeps_doubles = keeps_doubles }
+
+-- the sizes of a session are those of its configuration
+pub same-sizes : (config : Config) (batch queue : ℕ) (keeps_doubles : Bool) → batch ≡ config.send_batch_size → queue ≡ config.queue_capacity → keeps_doubles ≡ config.keeps_doubles
+    → session_sizes batch queue keeps_doubles ≡ sizes_of config
+same-sizes config batch queue keeps_doubles batch_is queue_is doubles_are = rw (batch_is, queue_is, doubles_are) refl
