@@ -11,7 +11,7 @@ use Rattle.script_session.proofs.replay.replay_run.Goals as goal
 
 pub run_session-requires : goal.run_session-requires
 run_session-requires g c = record {
-  open = c.in-Ok.ensures.open;
+  «open» = c.in-Ok.ensures.open;
   up = ap (λ (s : LineSinkState). s.is_down) c.in-Ok.ensures.sink;
   nothing_counted = c.in-Ok.ensures.nothing_counted;
 }
