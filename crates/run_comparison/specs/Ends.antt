@@ -1,7 +1,6 @@
 -- How traces ended in a run.
-use Rattle.std.specs.Prelude.{ℕ, ◌+◌, Bool, true, false, ◌||◌, if◌then◌else◌, List, length, Option, None, Some, is_some, nat_lt}
+use Rattle.std.specs.Prelude.{ℕ, ◌+◌, Bool, true, false, ◌||◌, if◌then◌else◌, List, length, Option, None, Some, ◌&&◌, is_none, nat_le}
 use Rattle.std.specs.Map.{lookup}
-use Rattle.std.specs.Option.{option_map_or}
 use Rattle.indexmap.specs.IndexMap.{insert_entry}
 use Rattle.span_ids.specs.Same.{same_trace}
 use Rattle.span_ids.specs.declared.ids.TraceId.{TraceId}
@@ -36,13 +35,18 @@ pub record Traces : Type 0 where
 abbrev pub end_of : List (TraceId × TraceEnd) → TraceId → Option TraceEnd
 end_of ends trace = lookup (same_trace trace) ends
 
--- whether a decision kept a trace
-abbrev pub was_kept : List (TraceId × TraceEnd) → TraceId → Bool
-was_kept ends trace = option_map_or (λ (e : TraceEnd). e.kept) (end_of ends trace) false
+-- whether a decision kept a trace that ended so
+abbrev pub is_kept_by : Option TraceEnd → Bool
+is_kept_by None = false
+is_kept_by (Some end) = end.kept
 
--- an end is told: it replaces the trace's last one; a trace that is kept once stays kept
+-- an end behind an earlier one of the same trace, where there was one: a trace that was kept once stays kept
+abbrev pub end_behind : (earlier : Option TraceEnd) → TraceEnd → TraceEnd
+end_behind earlier end = record { how = end.how; spans = end.spans; moment = end.moment; kept = is_kept_by earlier || end.kept }
+
+-- an end is told: it replaces the trace's last one, or gets a place where there is room, or is counted
 abbrev pub with_end : Traces → TraceId → TraceEnd → Traces
 with_end t trace end =
-    if is_some (end_of t.ends trace) || nat_lt (length t.ends) MOST_TRACES
-    then record { ends = insert_entry same_trace t.ends trace (record { how = end.how; spans = end.spans; moment = end.moment; kept = was_kept t.ends trace || end.kept }); beyond = t.beyond }
-    else record { ends = t.ends; beyond = capped (t.beyond + 1) }
+    if is_none (end_of t.ends trace) && nat_le MOST_TRACES (length t.ends)
+    then record { ends = t.ends; beyond = capped (t.beyond + 1) }
+    else record { ends = insert_entry same_trace t.ends trace (end_behind (end_of t.ends trace) end); beyond = t.beyond }

@@ -1,5 +1,5 @@
 -- Which traces are kept by which of two runs.
-use Rattle.std.specs.Prelude.{ℕ, ◌+◌, Bool, true, false, ◌||◌, if◌then◌else◌, List, ◌++◌, map, filter, count_by, take, is_none, nat_lt, Option, None, Some}
+use Rattle.std.specs.Prelude.{ℕ, ◌+◌, Bool, true, false, ◌||◌, ◌&&◌, if◌then◌else◌, List, [], ◌∷◌, ◌++◌, length, map, filter, fold, count_by, take, is_none, nat_lt, Option, None, Some}
 use Rattle.std.specs.Option.{option_map_or}
 use Rattle.std.specs.Map.{keys_of}
 use Rattle.span_ids.specs.declared.ids.TraceId.{TraceId}
@@ -30,9 +30,14 @@ kept_by None new = Unknown
 abbrev pub trace_kept_by : (old new : Traces) → TraceId → KeptBy
 trace_kept_by old new trace = kept_by (is_kept old trace) (is_kept new trace)
 
--- the traces that ended in one run or both: those of the old one in the order of their first ends, and then those of the new one alone
+-- those of these traces that haven't ended in the old run
+abbrev pub ended_in_new : (old : Traces) → List TraceId → List TraceId
+ended_in_new old traces = filter (λ (trace : TraceId). is_none (end_of old.ends trace)) traces
+
+-- the traces that ended in one run or both: those of the old one in the order of their first ends, and then those of
+-- the new one alone
 abbrev pub traces_of_both : (old new : Traces) → List TraceId
-traces_of_both old new = keys_of old.ends ++ filter (λ (trace : TraceId). is_none (end_of old.ends trace)) (keys_of new.ends)
+traces_of_both old new = keys_of old.ends ++ ended_in_new old (keys_of new.ends)
 
 abbrev pub is_both : KeptBy → Bool
 is_both Both = true
@@ -91,3 +96,15 @@ counted_more o OnlyOld = record { both = o.both; only_old = capped (o.only_old +
 counted_more o OnlyNew = record { both = o.both; only_old = o.only_old; only_new = capped (o.only_new + 1); none = o.none; unknown = o.unknown }
 counted_more o Neither = record { both = o.both; only_old = o.only_old; only_new = o.only_new; none = capped (o.none + 1); unknown = o.unknown }
 counted_more o Unknown = record { both = o.both; only_old = o.only_old; only_new = o.only_new; none = o.none; unknown = capped (o.unknown + 1) }
+
+-- these traces more, one after the other
+abbrev pub fold_kept : (old new : Traces) → Overlap → List TraceId → Overlap
+fold_kept old new overlap traces = fold (λ (o : Overlap) (trace : TraceId). counted_more o (trace_kept_by old new trace)) overlap traces
+
+-- a trace more, where one run alone keeps it and there is room for one more
+abbrev pub with_differing : (old new : Traces) → List Differing → TraceId → List Differing
+with_differing old new found trace = if nat_lt (length found) MOST_DIFFERING && differs (trace_kept_by old new trace) then found ++ with_ends old new trace ∷ [] else found
+
+-- these traces more, one after the other
+abbrev pub fold_differing : (old new : Traces) → List Differing → List TraceId → List Differing
+fold_differing old new found traces = fold (with_differing old new) found traces

@@ -15,7 +15,7 @@ use Rattle.run_comparison.specs.declared.end.HowEnded.TheVariants.{Decided, Evic
 use Rattle.run_comparison.specs.declared.end.TraceEnd.{TraceEnd}
 use Rattle.run_comparison.specs.Ends.{Traces, decided_end, evicted_end, end_of, with_end}
 use Rattle.run_comparison.specs.Policies.{PolicyAmounts, with_amount}
-use Rattle.run_comparison.specs.Services.{Services, with_kept_spans}
+use Rattle.run_comparison.specs.Services.{Services, no_services, with_kept_spans}
 use Rattle.run_comparison.specs.Timeline.{Timeline, no_steps, with_spans_at}
 
 -- the policies' names in their order, how traces ended, and what was kept by policy, by service and over time
@@ -80,6 +80,6 @@ no_run names = record {
   names = names;
   traces = record { ends = []; beyond = 0 };
   policies = record { by_place = replicate (length names) nothing; without = nothing };
-  services = record { list = []; beyond = 0 };
+  services = no_services;
   steps = no_steps;
 }

@@ -1,10 +1,12 @@
 -- The spans that were kept of each service.
-use Rattle.std.specs.Prelude.{ℕ, ◌+◌, Bool, List, [], ◌∷◌, ◌++◌, length, bytes_eq, if◌then◌else◌, nat_lt, Option, None, Some, codes, is_some, position, slice_index_or, slice_set, unwrap_or}
+use Rattle.std.specs.Prelude.{◌≡◌, ◌≤◌, ℕ, ◌+◌, List, [], ◌∷◌, ◌++◌, length, bytes_eq, if◌then◌else◌, nat_lt, Option, None, Some, codes, is_some, replicate, take, unwrap_or}
 use Rattle.otlp_types.specs.declared.arrival.Arrival.{Arrival}
 use Rattle.otlp_types.specs.declared.value.AnyValue.{AnyValue}
 use Rattle.otlp_types.specs.declared.value.AnyValue.TheVariants.{Str}
 use Rattle.otlp_types.specs.declared.value.KeyValue.{KeyValue}
 use Rattle.run_comparison.specs.Amount.{capped}
+use Rattle.run_comparison.specs.Names.{place_of}
+use Rattle.run_comparison.specs.Numbers.{more_at}
 use Rattle.run_comparison.specs.declared.services.TheConstants.{MOST_SERVICES}
 
 -- ---- the service of a span
@@ -29,37 +31,48 @@ service_of span = first_service span.rec.resource.attributes
 
 -- ---- the spans of services
 
--- each service with its spans, in the order in which the first of each was kept, and the spans of those without a place
+-- the services that have a place, in the order in which the first span of each was kept; their spans, by their places;
+-- and the spans of services without one
 pub record Services : Type 0 where
-  pub list : List (List ℕ × ℕ)
+  pub names : List (List ℕ)
+  pub spans : List ℕ
   pub beyond : ℕ
 
--- the place of a service
-abbrev pub place_of : List (List ℕ × ℕ) → (name : List ℕ) → Option ℕ
-place_of list name = position (λ (s : List ℕ × ℕ). bytes_eq s.0 name) list
+-- no span of any service
+unfoldable pub no_spans : List ℕ
+no_spans = replicate MOST_SERVICES 0
+
+-- no span was kept
+abbrev pub no_services : Services
+no_services = record { names = []; spans = no_spans; beyond = 0 }
 
 -- a service gets a place, if it has none and there is room for one more
 abbrev pub with_place : Services → (name : List ℕ) → Services
 with_place s name =
-    if nat_lt (length s.list) MOST_SERVICES
-    then (if is_some (place_of s.list name) then s else record { list = s.list ++ (name, 0) ∷ []; beyond = s.beyond })
+    if nat_lt (length s.names) MOST_SERVICES
+    then (if is_some (place_of s.names name) then s else record { names = s.names ++ name ∷ []; spans = s.spans; beyond = s.beyond })
     else s
 
--- each of these gets a place, in their order
+-- those that have a place keep it, and their spans
+pub record KeepsFront (old new : Services) : Type 0 where
+  pub front : take (length old.names) new.names ≡ old.names
+  pub grows : length old.names ≤ length new.names
+  pub spans : new.spans ≡ old.spans
+  pub beyond : new.beyond ≡ old.beyond
+
+-- the services of these spans get places, in their order
 abbrev pub with_places : Services → (spans : List Arrival) → Services
 with_places s [] = s
 with_places s (span ∷ spans) = with_places (with_place s (service_of span)) spans
 
 -- one span more at a place, or of those without one
 abbrev pub with_span_at : Services → Option ℕ → Services
-with_span_at s None = record { list = s.list; beyond = capped (s.beyond + 1) }
-with_span_at s (Some place) =
-    let service = slice_index_or s.list place ([], 0) in
-    record { list = slice_set s.list place (service.0, capped (service.1 + 1)); beyond = s.beyond }
+with_span_at s None = record { names = s.names; spans = s.spans; beyond = capped (s.beyond + 1) }
+with_span_at s (Some place) = record { names = s.names; spans = more_at s.spans place 1; beyond = s.beyond }
 
 -- one span more of a service
 abbrev pub with_span : Services → (name : List ℕ) → Services
-with_span s name = with_span_at s (place_of s.list name)
+with_span s name = with_span_at s (place_of s.names name)
 
 -- these spans more, each of its service
 abbrev pub with_spans : Services → (spans : List Arrival) → Services

@@ -1,6 +1,7 @@
 //! The first traces that one run alone keeps.
-ghost use Rattle.std.specs.Prelude.{◌≡◌, ◌||◌, IfOk};
-ghost use Rattle.run_comparison.specs.Overlaps.{differs, first_differing, with_ends};
+ghost use Rattle.std.specs.Prelude.{◌≡◌, [], IfOk, OnOk};
+ghost use Rattle.std.specs.Map.{keys_of};
+ghost use Rattle.run_comparison.specs.Overlaps.{differs, ended_in_new, first_differing, fold_differing, with_differing, with_ends};
 
 use crate::end::TraceEnd;
 use crate::overlap::{KeptBy, trace_kept_by};
@@ -37,26 +38,62 @@ fn with_ends(old: &Traces, new: &Traces, trace: TraceId) -> Differing
     }
 }
 
+/// A trace more, where one run alone keeps it and there is room for one more. `Err` where memory was refused.
+fn add_differing(
+    found: &mut Vec<Differing>,
+    old: &Traces,
+    new: &Traces,
+    trace: TraceId,
+) -> Result<(), AllocError>
+    ensures { OnOk result (found.new.items ≡ with_differing old.now new.now found.old.items trace) }
+{
+    if found.len() < MOST_DIFFERING && differs(trace_kept_by(old, new, trace)) {
+        found.push(with_ends(old, new, trace))?;
+    }
+    Ok(())
+}
+
+/// The first traces that one run alone keeps, of those that ended in the old one.
+#[tactic(auto, using(crate::proofs::Counted::drop_at))]
+fn differing_of_old(alloc: Global, old: &Traces, new: &Traces) -> Result<Vec<Differing>, AllocError>
+    ensures { IfOk result (λ found. found.items ≡ fold_differing old.now new.now [] (keys_of old.now.ends)) }
+{
+    let mut found = Vec::new(alloc);
+    for place in 0..old.len() {
+        add_differing(&mut found, old, new, old.trace_at(place))?;
+    }
+    Ok(found)
+}
+
+/// The first traces that one run alone keeps: those so far, and of those that ended in the new run alone.
+#[tactic(auto, using(crate::proofs::Counted::drop_at))]
+fn differing_of_new(
+    so_far: Vec<Differing>,
+    old: &Traces,
+    new: &Traces,
+) -> Result<Vec<Differing>, AllocError>
+    ensures { IfOk result (λ found. found.items ≡ fold_differing old.now new.now so_far.items (ended_in_new old.now (keys_of new.now.ends))) }
+{
+    let mut found = so_far;
+    for place in 0..new.len() {
+        let trace = new.trace_at(place);
+        if old.end_of(trace).is_none() {
+            add_differing(&mut found, old, new, trace)?;
+        }
+    }
+    Ok(found)
+}
+
 /// The first traces that one run alone keeps: those that ended in the old one, in the order of their first ends there,
-/// and then those that ended in the new one alone.
+/// and then those that ended in the new one alone. `Err` where memory was refused.
+#[tactic(auto, using(crate::proofs::Differs::all_differing))]
 pub fn first_differing(
     alloc: Global,
     old: &Traces,
     new: &Traces,
-) -> Result<Vec<Differing>, AllocError> {
-    let mut found = Vec::new(alloc);
-    for trace in old.ends().keys() {
-        if found.len() < MOST_DIFFERING && differs(trace_kept_by(old, new, *trace)) {
-            found.push(with_ends(old, new, *trace))?;
-        }
-    }
-    for trace in new.ends().keys() {
-        if found.len() < MOST_DIFFERING
-            && old.end_of(*trace).is_none()
-            && differs(trace_kept_by(old, new, *trace))
-        {
-            found.push(with_ends(old, new, *trace))?;
-        }
-    }
-    Ok(found)
+) -> Result<Vec<Differing>, AllocError>
+    ensures { IfOk result (λ found. found.items ≡ first_differing old.now new.now) }
+{
+    let found = differing_of_old(alloc, old, new)?;
+    differing_of_new(found, old, new)
 }

@@ -1,6 +1,6 @@
 //! How a trace ended.
 ghost use Rattle.std.specs.Prelude.{◌≡◌};
-ghost use Rattle.run_comparison.specs.Ends.{decided_end, evicted_end};
+ghost use Rattle.run_comparison.specs.Ends.{decided_end, end_behind, evicted_end};
 
 use decision_line::{DecidedTrace, DueCause, EvictedTrace};
 use span_ids::Verdict;
@@ -35,6 +35,17 @@ pub struct TraceEnd {
 }
 
 impl TraceEnd {
+    /// This end behind an earlier one of the same trace, where there was one: a trace that was kept once stays kept.
+    pub fn behind(self, earlier: Option<TraceEnd>) -> TraceEnd
+        ensures { result ≡ end_behind earlier self }
+    {
+        let kept = match earlier {
+            Some(earlier) => earlier.kept || self.kept,
+            None => self.kept,
+        };
+        TraceEnd { kept, ..self }
+    }
+
     /// The name of the policy that decided, where one did, of the names of all.
     pub fn policy<'a>(&self, names: &'a [String]) -> Option<&'a str> {
         match self.how {

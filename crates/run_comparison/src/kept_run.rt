@@ -1,8 +1,8 @@
 //! What one run decided and kept, told while it runs.
-ghost use Rattle.std.specs.Prelude.{◌≡◌, [], length, map, string_bytes, take, option_map, IfOk, OnErr, OnOk};
-ghost use Rattle.run_comparison.specs.Ends.{with_end};
+ghost use Rattle.std.specs.Prelude.{◌≡◌, map, string_bytes, option_map, IfOk, OnErr, OnOk};
+ghost use Rattle.run_comparison.specs.Ends.{decided_end, with_end};
 ghost use Rattle.run_comparison.specs.Run.{decider_of, kept_by_decision, no_run, with_decision, with_eviction, with_late_span};
-ghost use Rattle.run_comparison.specs.Services.{with_places, with_spans};
+ghost use Rattle.run_comparison.specs.Services.{KeepsFront, with_places, with_spans};
 
 use crate::amount::Amount;
 use crate::end::{HowEnded, decided_end, evicted_end};
@@ -41,10 +41,10 @@ impl Model for KeptRun {
 }
 
 /// Services get places. `Err` where memory was refused: some of them may have.
+#[tactic(auto, using(crate::proofs::Fronts::front_goes_on))]
 fn place_all(services: &mut Services, spans: &[Arrival]) -> Result<(), AllocError>
     ensures placed { OnOk result (services.new ≡ with_places services.old spans.now) }
-    ensures front { take (length services.old.list) services.new.list ≡ services.old.list }
-    ensures beyond { services.new.beyond ≡ services.old.beyond }
+    ensures front { KeepsFront services.old services.new }
 {
     for span in spans {
         services.place(service_of(span))?;
@@ -102,18 +102,20 @@ impl KeptRun {
         ensures { IfOk result (λ r. r ≡ no_run (map string_bytes names.items)) }
     {
         let policies = PolicyAmounts::new(alloc, names.len())?;
+        let services = Services::new(alloc)?;
         let steps = Steps::new(alloc)?;
         Ok(KeptRun {
             names,
             traces: Traces::new(alloc),
             policies,
-            services: Services::new(alloc),
+            services,
             steps,
         })
     }
 
     /// All that takes memory for a decision: the services get places, and the trace's end is told. `Err` where memory was
     /// refused: all is as it was.
+    #[tactic(auto, using(crate::proofs::Fronts::front_back))]
     fn make_room(&mut self, decision: &DecidedTrace, released: &[Arrival]) -> Result<(), AllocError>
         ensures made { OnOk result (self.new ≡ record self.old {
           traces = with_end self.old.traces decision.now.trace (decided_end decision.now);

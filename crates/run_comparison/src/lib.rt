@@ -18,6 +18,8 @@ mod differing;
 mod end;
 mod json_text;
 mod kept_run;
+mod names;
+mod numbers;
 mod overlap;
 mod page;
 mod page_text;

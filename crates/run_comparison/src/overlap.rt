@@ -1,6 +1,7 @@
 //! Which traces are kept by which run.
 ghost use Rattle.std.specs.Prelude.{◌≡◌};
-ghost use Rattle.run_comparison.specs.Overlaps.{counted_more, is_kept, kept_by, nobody, overlap_of, trace_kept_by};
+ghost use Rattle.std.specs.Map.{keys_of};
+ghost use Rattle.run_comparison.specs.Overlaps.{counted_more, ended_in_new, fold_kept, is_kept, kept_by, nobody, overlap_of, trace_kept_by};
 
 use crate::traces::Traces;
 use span_ids::TraceId;
@@ -96,16 +97,37 @@ impl Overlap {
     }
 }
 
-/// How many traces are kept by which run.
-pub fn overlap_of(old: &Traces, new: &Traces) -> Overlap {
+/// How many traces are kept by which run, of those that ended in the old one.
+#[tactic(auto, using(crate::proofs::Counted::drop_at))]
+fn of_old(old: &Traces, new: &Traces) -> Overlap
+    ensures { result ≡ fold_kept old.now new.now nobody (keys_of old.now.ends) }
+{
     let mut overlap = Overlap::empty();
-    for trace in old.ends().keys() {
-        overlap = overlap.with(trace_kept_by(old, new, *trace));
+    for place in 0..old.len() {
+        overlap = overlap.with(trace_kept_by(old, new, old.trace_at(place)));
     }
-    for trace in new.ends().keys() {
-        if old.end_of(*trace).is_none() {
-            overlap = overlap.with(trace_kept_by(old, new, *trace));
+    overlap
+}
+
+/// How many traces are kept by which run, of those so far and those that ended in the new one alone.
+#[tactic(auto, using(crate::proofs::Counted::drop_at))]
+fn with_new(so_far: Overlap, old: &Traces, new: &Traces) -> Overlap
+    ensures { result ≡ fold_kept old.now new.now so_far (ended_in_new old.now (keys_of new.now.ends)) }
+{
+    let mut overlap = so_far;
+    for place in 0..new.len() {
+        let trace = new.trace_at(place);
+        if old.end_of(trace).is_none() {
+            overlap = overlap.with(trace_kept_by(old, new, trace));
         }
     }
     overlap
+}
+
+/// How many traces are kept by which run, of those that ended in one of them.
+#[tactic(auto, using(crate::proofs::Counted::all_counted))]
+pub fn overlap_of(old: &Traces, new: &Traces) -> Overlap
+    ensures { result ≡ overlap_of old.now new.now }
+{
+    with_new(of_old(old, new), old, new)
 }

@@ -22,6 +22,17 @@ impl Model for PolicyAmounts {
     ghost view = { λ p. record { by_place = p.by_place.items; without = p.without } };
 }
 
+/// An amount and others together.
+fn sum_of(first: Amount, others: &[Amount]) -> Amount
+    ensures { result ≡ fold plus first others.now }
+{
+    let mut sum = first;
+    for amount in others {
+        sum = sum.plus(*amount);
+    }
+    sum
+}
+
 impl PolicyAmounts {
     /// None of so many policies kept anything.
     pub fn new(alloc: Global, policies: usize) -> Result<PolicyAmounts, AllocError>
@@ -57,11 +68,7 @@ impl PolicyAmounts {
     pub fn all(&self) -> Amount
         ensures { result ≡ fold plus self.now.without self.now.by_place }
     {
-        let mut all = self.without;
-        for amount in &self.by_place {
-            all = all.plus(*amount);
-        }
-        all
+        sum_of(self.without, &self.by_place)
     }
 
     /// What was kept without a policy.

@@ -3,6 +3,7 @@ ghost use Rattle.std.specs.Prelude.{◌≡◌};
 
 use crate::amount::Amount;
 use crate::kept_run::KeptRun;
+use crate::names::place_of;
 use crate::services::Services;
 use crate::steps::Steps;
 use std::alloc::{AllocError, Global};
@@ -21,11 +22,6 @@ pub struct ServiceRow<'a> {
     pub name: &'a str,
     pub old: u64,
     pub new: u64,
-}
-
-/// The first place of a name.
-fn place_of(names: &[String], name: &str) -> Option<usize> {
-    names.iter().position(|other| other.as_str() == name)
 }
 
 /// What the policy at a place kept.
@@ -77,19 +73,19 @@ pub fn service_rows<'a>(
     new: &'a Services,
 ) -> Result<Vec<ServiceRow<'a>>, AllocError> {
     let mut rows = Vec::new(alloc);
-    for service in old.list() {
+    for (name, spans) in old.names().iter().zip(old.spans()) {
         rows.push(ServiceRow {
-            name: service.name.as_str(),
-            old: service.spans,
-            new: new.spans_of(service.name.as_str()),
+            name: name.as_str(),
+            old: *spans,
+            new: new.spans_of(name.as_str()).unwrap_or(0),
         })?;
     }
-    for service in new.list() {
-        if !old.has(service.name.as_str()) {
+    for (name, spans) in new.names().iter().zip(new.spans()) {
+        if place_of(old.names(), name.as_str()).is_none() {
             rows.push(ServiceRow {
-                name: service.name.as_str(),
+                name: name.as_str(),
                 old: 0,
-                new: service.spans,
+                new: *spans,
             })?;
         }
     }

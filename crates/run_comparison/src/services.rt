@@ -1,113 +1,105 @@
 //! The spans that were kept of each service.
-ghost use Rattle.std.specs.Prelude.{◌≡◌, ◌≤◌, [], length, take, IfOk, OnOk, OnErr};
-ghost use Rattle.run_comparison.specs.Services.{with_place, with_span};
+ghost use Rattle.std.specs.Prelude.{◌≡◌, length, map, string_bytes, take, IfOk, OnOk, OnErr};
+ghost use Rattle.run_comparison.specs.Services.{KeepsFront, no_services, with_place, with_span};
 
+use crate::names::place_of;
+use crate::numbers::add_at;
 use std::alloc::{AllocError, Global};
 use std::marker::Model;
 
 /// Of how many services a run counts the spans: those of more are counted together.
 pub const MOST_SERVICES: usize = 1000;
 
-/// A service, and how many of its spans were kept.
-#[derive(Drop)]
-pub struct Service {
-    pub name: String,
-    pub spans: u64,
-}
-
-/// The spans that were kept of each service, in the order in which the first of each was kept. There are few services,
-/// so they stand in a list.
+/// The spans that were kept of each service, in the order in which the first of each was kept.
 #[derive(Drop)]
 pub struct Services {
-    list: Vec<Service>,
+    /// The names of those that have a place. There are few, so they stand in a list.
+    names: Vec<String>,
+    /// Their spans, by their places; those behind the last one are 0.
+    spans: Vec<u64>,
+    /// The spans of services without a place.
     beyond: u64,
 }
 
 impl Model for Services {
-    ghost use Rattle.std.specs.Prelude.{map};
+    ghost use Rattle.std.specs.Prelude.{map, string_bytes};
     ghost use Rattle.run_comparison.specs.Services.{Services};
-    ghost use Rattle.run_comparison.specs.ServiceItems.{told};
 
     ghost Value = { Services };
 
-    ghost view = { λ s. record { list = map told s.list.items; beyond = s.beyond } };
+    ghost view = { λ s. record { names = map string_bytes s.names.items; spans = s.spans.items; beyond = s.beyond } };
 }
 
 impl Services {
-    /// No span was kept.
-    pub fn new(alloc: Global) -> Services
-        ensures { result ≡ record { list = []; beyond = 0 } }
+    /// No span was kept. `Err` where memory was refused.
+    #[tactic(auto, unfolding(crate::specs::Services::no_spans))]
+    pub fn new(alloc: Global) -> Result<Services, AllocError>
+        ensures { IfOk result (λ s. s ≡ no_services) }
     {
-        Services {
-            list: Vec::new(alloc),
+        Ok(Services {
+            names: Vec::new(alloc),
+            spans: vec![in alloc; 0; MOST_SERVICES]?,
             beyond: 0,
-        }
+        })
     }
 
-    /// How many services there are.
+    /// How many services have a place.
     pub fn len(&self) -> usize
-        ensures { result ≡ length self.now.list }
+        ensures { result ≡ length self.now.names }
     {
-        self.list.len()
-    }
-
-    /// Where a service stands.
-    fn place_of(&self, name: &str) -> Option<usize> {
-        self.list
-            .iter()
-            .position(|service| service.name.as_str() == name)
+        self.names.len()
     }
 
     /// A service gets a place, if it has none and there is room for one more. `Err` where memory was refused: all is as
     /// it was.
     pub fn place(&mut self, name: &str) -> Result<(), AllocError>
         ensures placed { OnOk result (self.new ≡ with_place self.old name.now) }
+        ensures front { KeepsFront self.old self.new }
         ensures same { OnErr result (self.new ≡ self.old) }
     {
-        if self.list.len() >= MOST_SERVICES || self.place_of(name).is_some() {
+        if self.names.len() >= MOST_SERVICES || place_of(&self.names, name).is_some() {
             return Ok(());
         }
-        let name = String::from_str(*self.list.allocator(), name)?;
-        self.list.push(Service { name, spans: 0 })?;
+        let name = String::from_str(*self.names.allocator(), name)?;
+        self.names.push(name)?;
         Ok(())
     }
 
     /// Only the first services keep their places.
     pub fn truncate(&mut self, len: usize)
-        ensures { self.new ≡ record self.old { list = take len self.old.list } }
+        ensures { self.new ≡ record self.old { names = take len self.old.names } }
     {
-        self.list.truncate(len);
+        self.names.truncate(len);
     }
 
     /// One span more of a service was kept; it is counted with those of others where the service has no place.
     pub fn add(&mut self, name: &str)
         ensures { self.new ≡ with_span self.old name.now }
     {
-        match self.place_of(name) {
-            Some(place) => {
-                let service = &mut self.list[place];
-                service.spans = service.spans.saturating_add(1);
-            }
+        match place_of(&self.names, name) {
+            Some(place) => add_at(&mut self.spans, place, 1),
             None => self.beyond = self.beyond.saturating_add(1),
         }
     }
 
-    /// Whether a service has a place.
-    pub fn has(&self, name: &str) -> bool {
-        self.place_of(name).is_some()
+    /// How many spans of a service were kept, where it has a place.
+    pub fn spans_of(&self, name: &str) -> Option<u64> {
+        let place = place_of(&self.names, name)?;
+        self.spans.get(place).copied()
     }
 
-    /// How many spans of a service were kept, as far as it has a place.
-    pub fn spans_of(&self, name: &str) -> u64 {
-        match self.place_of(name) {
-            Some(place) => self.list[place].spans,
-            None => 0,
-        }
+    /// The names of the services that have a place.
+    pub fn names(&self) -> &[String]
+        ensures { map string_bytes result.now ≡ self.now.names }
+    {
+        &self.names
     }
 
-    /// The services.
-    pub fn list(&self) -> &[Service] {
-        &self.list
+    /// Their spans, by their places; those behind the last one are 0.
+    pub fn spans(&self) -> &[u64]
+        ensures { result.now ≡ self.now.spans }
+    {
+        &self.spans
     }
 
     /// How many spans were kept of services without a place.

@@ -1,7 +1,8 @@
 //! The spans that were kept over time.
-ghost use Rattle.std.specs.Prelude.{◌≡◌, ◌<◌, ◌||◌, false, nat_lt, not, length, IfOk, replicate};
-ghost use Rattle.run_comparison.specs.Timeline.{covering, least_doubling, more_in, no_steps, regridded, steps_between, width_for, with_spans_at};
+ghost use Rattle.std.specs.Prelude.{◌≡◌, ◌<◌, IfOk};
+ghost use Rattle.run_comparison.specs.Timeline.{covering, no_steps, reaching, regridded, steps_between, width_for, with_spans_at};
 
+use crate::numbers::add_at;
 use std::alloc::{AllocError, Global};
 use std::marker::Model;
 
@@ -51,28 +52,19 @@ fn steps_between(from: u64, moment: u64, width: u64) -> u64
 
 /// The width of steps from one moment to another: the least, of the shortest one and its doublings, by which the moments
 /// are fewer than the most steps apart.
+#[tactic(auto, using(crate::proofs::Widths::least_here, crate::proofs::Widths::least_later), unfolding(crate::specs::Timeline::width_for))]
 pub fn width_for(from: u64, to: u64) -> u64
     ensures width { result ≡ width_for from to }
     ensures positive { 0 < result }
 {
     let mut width = LEAST_STEP;
-    for _doubling in 0..DOUBLINGS {
+    for doubling in 0..DOUBLINGS {
         if steps_between(from, to, width) < MOST_STEPS as u64 {
             return width;
         }
         width = width.saturating_mul(2);
     }
     width
-}
-
-/// So many spans more in a step.
-fn add_in(counts: &mut [u64], step: u64, spans: u64)
-    ensures { counts.new ≡ more_in counts.old step spans }
-{
-    if step < counts.len() as u64 {
-        let place = step as usize;
-        counts[place] = counts[place].saturating_add(spans);
-    }
 }
 
 /// The spans of steps of one width, of which the first has this number, go into steps of another width, the first of
@@ -84,17 +76,18 @@ fn regrid(earlier: &[u64], first: u64, width: u64, from: u64, wider: u64, counts
     let mut number = first;
     for spans in earlier {
         let step = steps_between(from, number.saturating_mul(width), wider);
-        add_in(counts, step, *spans);
+        add_at(counts, step as usize, *spans);
         number = number.saturating_add(1);
     }
 }
 
 impl Steps {
-    /// No span was kept.
+    /// No span was kept. `Err` where memory was refused.
+    #[tactic(auto, unfolding(crate::specs::Timeline::no_counts))]
     pub fn new(alloc: Global) -> Result<Steps, AllocError>
         ensures { IfOk result (λ s. s ≡ no_steps) }
     {
-        let counts = vec![in alloc; 0; 512]?;
+        let counts = vec![in alloc; 0; MOST_STEPS]?;
         Ok(Steps {
             any: false,
             from: 0,
@@ -108,7 +101,7 @@ impl Steps {
     pub fn try_clone(&self, alloc: Global) -> Result<Steps, AllocError>
         ensures { IfOk result (λ s. s ≡ self.now) }
     {
-        let mut counts = vec![in alloc; 0; 512]?;
+        let mut counts = vec![in alloc; 0; MOST_STEPS]?;
         counts.copy_from_slice(&self.counts);
         Ok(Steps {
             any: self.any,
@@ -120,6 +113,7 @@ impl Steps {
     }
 
     /// The steps reach from one moment to another too, in which nothing was kept.
+    #[tactic(auto, unfolding(crate::specs::Timeline::no_counts))]
     pub fn cover(&mut self, from: u64, to: u64)
         ensures { self.new ≡ covering self.old from to }
     {
@@ -133,7 +127,7 @@ impl Steps {
         let from = self.from.min(from);
         let to = self.to.max(to);
         let wider = width_for(from, to);
-        let mut counts = [0u64; 512];
+        let mut counts = [0u64; MOST_STEPS];
         let first = self.from / self.width;
         regrid(&self.counts, first, self.width, from, wider, &mut counts);
         self.counts.copy_from_slice(&counts);
@@ -142,11 +136,13 @@ impl Steps {
         self.width = wider;
     }
 
-    /// Whether the steps reach a moment.
-    fn reaches(&self, moment: u64) -> bool
-        ensures { result ≡ not (not self.now.any || (nat_lt moment self.now.from || nat_lt self.now.to moment)) }
+    /// The steps reach a moment.
+    fn reach(&mut self, moment: u64)
+        ensures { self.new ≡ reaching self.old moment }
     {
-        !(!self.any || (moment < self.from || self.to < moment))
+        if !self.any || (moment < self.from || self.to < moment) {
+            self.cover(moment, moment);
+        }
     }
 
     /// So many spans were kept at a moment.
@@ -156,11 +152,9 @@ impl Steps {
         if spans == 0 {
             return;
         }
-        if !self.reaches(moment) {
-            self.cover(moment, moment);
-        }
+        self.reach(moment);
         let step = steps_between(self.from, moment, self.width);
-        add_in(&mut self.counts, step, spans);
+        add_at(&mut self.counts, step as usize, spans);
     }
 
     /// When the first step begins, in milliseconds.

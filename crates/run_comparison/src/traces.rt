@@ -1,5 +1,6 @@
 //! The last end of each trace.
-ghost use Rattle.std.specs.Prelude.{◌≡◌, [], IfOk, OnOk, OnErr, option_copied, length};
+ghost use Rattle.std.specs.Prelude.{◌≡◌, [], IfOk, OnOk, OnErr, option_copied, ◌<◌, length, slice_get, Some};
+ghost use Rattle.std.specs.Map.{keys_of};
 ghost use Rattle.run_comparison.specs.Ends.{end_of, with_end};
 
 use crate::end::TraceEnd;
@@ -68,24 +69,18 @@ impl Traces {
             self.beyond = self.beyond.saturating_add(1);
             return Ok(());
         }
-        let was_kept = match before {
-            Some(earlier) => earlier.kept,
-            None => false,
-        };
-        let end = TraceEnd {
-            kept: was_kept || end.kept,
-            ..end
-        };
-        if self.ends.insert(trace, end).is_err() {
+        if self.ends.insert(trace, end.behind(before)).is_err() {
             return Err(AllocError);
         }
         Ok(())
     }
 
-    /// The ends, in the order of the traces' first ends.
-    pub fn ends(&self) -> &IndexMap<TraceId, TraceEnd>
-        ensures { result.now.entries ≡ self.now.ends }
+    /// The trace at a place, from 0, in the order of their first ends.
+    pub fn trace_at(&self, place: usize) -> TraceId
+        requires { place < length self.now.ends }
+        ensures { slice_get (keys_of self.now.ends) place ≡ Some result }
     {
-        &self.ends
+        let (trace, _end) = self.ends.get_index(place).unwrap();
+        *trace
     }
 }
