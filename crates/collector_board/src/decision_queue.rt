@@ -1,6 +1,6 @@
 //! What shards tell of their decisions, until it is written.
 use crossbeam_queue::ArrayQueue;
-use decision_line::{DecidedTrace, EvictedTrace, Said};
+use decision_json::{MOST_SAID, TraceNews};
 use policy_eval::MOST_POLICIES;
 use std::alloc::{AllocError, Global};
 use std::sync::Wait;
@@ -9,33 +9,7 @@ use std::sync::atomic::{AtomicU64, Ordering};
 /// At most this many decisions wait until they are written, some 12 MiB.
 const MOST_WAITING: usize = 65_536;
 
-/// What became of a trace.
-#[derive(Clone, Copy)]
-pub enum TraceNews {
-    /// It was decided, and the first so many policies said this.
-    Decided {
-        trace: DecidedTrace,
-        said: [Said; MOST_POLICIES],
-        asked: usize,
-    },
-    /// It left the full buffer undecided.
-    Evicted(EvictedTrace),
-}
-
-impl TraceNews {
-    /// A trace was decided, and the first policies said this.
-    pub fn decided(trace: DecidedTrace, told: &[Said]) -> TraceNews {
-        let mut said = [Said::NotAsked; MOST_POLICIES];
-        let mut asked = 0;
-        for one in told {
-            if asked < said.len() {
-                said[asked] = *one;
-                asked += 1;
-            }
-        }
-        TraceNews::Decided { trace, said, asked }
-    }
-}
+const _: () = prove!(MOST_SAID == MOST_POLICIES);
 
 /// Decisions that shards told and nobody has taken yet.
 #[derive(Drop)]

@@ -1,6 +1,7 @@
 //! The thread that writes a line for each decided and each evicted trace.
 use crate::charge::Charge;
-use collector_board::{DecisionQueue, TraceNews};
+use collector_board::DecisionQueue;
+use decision_json::TraceNews;
 use decision_line::{put_decided, put_evicted};
 use http_lane::HasStopMark;
 use std::alloc::{AllocError, Global};
