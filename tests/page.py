@@ -178,7 +178,7 @@ def balance(page, collector):
     decided = sum(it for name, it in told.items() if name.startswith("tsc_traces_decided"))
     check("each decided trace is in one row", abs(sum(number(it[1]) + number(it[2]) for it in policies) - decided) < 2000)
     check("the chart has areas and a line", page.js("return [document.querySelectorAll('#chart path.received').length > 0, document.querySelectorAll('#chart path').length > 1]"), [True, True])
-    check("single decisions have no link", page.js("return document.querySelector('nav a[href=\"#decisions\"]').hidden"))
+    check("single decisions have a link", page.js("return document.querySelector('nav a[href=\"#decisions\"]').hidden"), False)
     check("no error in the console", page.console(), [])
 
 
@@ -214,6 +214,59 @@ def remembered(page, collector):
     check("what came before is there at once", bool(page.until("latest() && page.samples.filter(it => it.brief).length >= 2", 5)))
     check("its rates are those of the load", page.js("return columns().filter(it => it.received > 0).length >= 2"))
     check("no error in the console at once", page.console(), [])
+
+
+def why(page, collector):
+    """The last decisions are shown from the first look on, and one of them by its trace's id; what isn't known is told so."""
+    page.open(collector, 0, "#decisions")
+    check("decisions are told", bool(page.until("document.querySelectorAll('#decided tbody tr').length === 100", 30)))
+    page.driver.find_element(By.ID, "pause").click()
+    time.sleep(1)
+    told = {it["trace_id"]: it for it in page.js("return page.decisions")}
+    rows = page.rows("#decided")
+    ids = page.js("return [...document.querySelectorAll('#decided a.id')].map(it => it.title)")
+    check("each is one of those that are told, in their order", ids, list(told))
+    verdicts = {"kept": "kept", "not_kept": "not kept", None: "left undecided"}
+    check("its verdict", [it[2] for it in rows], [verdicts[told[it].get("verdict")] for it in ids])
+    reasons = {"none_agreed": "none spoke for it", "too_big": "its size", None: "no room for it"}
+    check("who decided", [it[3] for it in rows], [told[it].get("policy") or reasons[told[it].get("because")] for it in ids])
+    check("how many spans", [number(it[5]) for it in rows], [told[it]["spans"] for it in ids])
+    check("a name with markup is a text there, too", page.js("return document.querySelectorAll('#decided b[onclick]').length"), 0)
+    page.js("document.getElementById('which').value = 'kept'; document.getElementById('which').dispatchEvent(new Event('change'))")
+    check("the kept ones alone", len(page.rows("#decided")), sum(it.get("verdict") == "kept" for it in told.values()))
+    page.js("document.getElementById('which').value = ''; document.getElementById('which').dispatchEvent(new Event('change'))")
+    page.shot("decisions")
+    kept = next(it for it in told.values() if it.get("verdict") == "kept")
+    page.js("document.getElementById('trace-id').value = arguments[0]", kept["trace_id"].upper())
+    page.driver.find_element(By.CSS_SELECTOR, "#ask button").click()
+    check("a trace is found by its id", page.until("document.querySelector('#found .verdict')?.textContent"), "Kept")
+    answers = page.rows("#found")
+    words = {"sample": "keep", "not_sample": "no", "not_asked": "wasn't asked", "inverted_sample": "nothing against it", "inverted_not_sample": "against"}
+    check("what each policy said of it", [(it[0].removesuffix(" decided"), it[1]) for it in answers], [(it["policy"], words[it["answer"]]) for it in kept["answers"]])
+    check("the one that decided", [it[0].removesuffix(" decided") for it in answers if it[0].endswith(" decided")], [kept["policy"]])
+    page.shot("trace")
+    page.js("document.getElementById('trace-id').value = arguments[0]", "0" * 31 + "1")
+    page.driver.find_element(By.CSS_SELECTOR, "#ask button").click()
+    check("one of which nothing is told", page.until("document.querySelector('#found .verdict')?.textContent === \"This trace isn't known\""))
+    page.js("document.getElementById('trace-id').value = '12'")
+    page.driver.find_element(By.CSS_SELECTOR, "#ask button").click()
+    check("an id that is none", page.until("document.getElementById('ask-fault').textContent"), "A trace id has 32 digits from 0 to 9 and a to f.")
+    page.driver.find_element(By.ID, "pause").click()
+    check("no error in the console of decisions", page.console(), [])
+
+
+def left(page, small):
+    """A trace that left a full buffer is told so."""
+    page.open(small, 3, "#decisions")
+    sender = Sender(f"127.0.0.1:{small.listen}")
+    for _ in range(20):
+        sender.post(body_of([span for _ in range(30) for span in trace()]))
+    found = "[...document.querySelectorAll('#decided tbody tr')].some(it => it.cells[2].textContent === 'left undecided' && it.cells[3].textContent === 'no room for it')"
+    check("a trace that left undecided is told", bool(page.until(found)))
+    page.js("document.querySelectorAll('#decided tbody tr').forEach(it => it.cells[2].textContent === 'left undecided' && (window.gone = it.cells[1].firstChild.title))")
+    page.js("location.hash = 'trace=' + window.gone")
+    check("and by its id", page.until("document.querySelector('#found .verdict')?.textContent"), "Left undecided")
+    page.console()
 
 
 def refused(page, collector):
@@ -292,7 +345,7 @@ def looks(page, collector):
         check(f"{scheme}: texts stand out, at least 4.5 to 1", min(min(contrast(it, card), contrast(it, body)) for it in texts) >= 4.5)
         page.shot(scheme)
     check("dark is dark, and light is light", shades["dark"] < 0.05 and shades["light"] > 0.8)
-    for at in ("", "#settings"):
+    for at in ("", "#settings", "#decisions"):
         page.media(width=360)
         page.open(collector, 3, at)
         check(f"nothing sticks out at 360 pixels: {at or 'now'}", page.js("return document.documentElement.scrollWidth"), 360)
@@ -310,8 +363,9 @@ def main():
     loading = threading.Thread(target=load, args=(f"127.0.0.1:{collector.listen}", 900, 60.0, lambda: not over.is_set()))
     loading.start()
     try:
-        for tried in (balance, by_hand, remembered, refused, looks, long_open):
+        for tried in (balance, by_hand, remembered, why, refused, looks, long_open):
             tried(page, collector)
+        left(page, small)
         warned(page, small)
         restarted(page, collector)
     finally:

@@ -85,7 +85,7 @@ def the_page(start):
     own = f"default-src 'none'; script-src 'sha256-{hashes[0]}'; style-src 'sha256-{hashes[1]}'; connect-src 'self'; img-src data:; "
     # (A client here reads the fields in small letters.)
     want("its policy", fields["content-security-policy"], (own + "base-uri 'none'; form-action 'none'; frame-ancestors 'none'").lower())
-    want("what it asks", re.findall('data-feeds="(.*?)"', page), ["metrics status"])
+    want("what it asks", re.findall('data-feeds="(.*?)"', page), ["metrics status decisions"])
     want("what it takes from elsewhere", re.findall(r"(?:src|href|action)=[\"'](?!#|data:|metrics|config)", page), [])
     for port in (metrics, collector.port):
         want(f"the page at {port}", asked(port, get("/"))[::2], (404, '{"message":"not found"}'))

@@ -1,12 +1,14 @@
-"""Checks of `tsc serve` whose decisions are written: a line for each trace that is decided or evicted, with what each policy said of it."""
+"""Checks of `tsc serve` whose decisions are told: a line for each trace that is decided or evicted, with what each policy said of it, and the last of them as
+JSON at the address for those in charge, from the first look on."""
 
 import json
 import os
 import random
 import subprocess
 import tempfile
+import time
 
-from collector import ALL, PATIENCE, LeftOut, comes_to, free_port, post, body_of, want
+from collector import ALL, PATIENCE, Failure, LeftOut, asked, body_of, comes_to, free_port, get, post, scrape, want
 from serve_output import ask_in_charge, lines_of
 
 POLICIES = [
@@ -181,4 +183,175 @@ def decisions_of_a_full_disk(start):
     want("what is said at the end", ["lines=20" in it for it in said], [True])
 
 
+# The words of the lines, as the address for those in charge has them.
+ANSWERS = {"sampled": "sample", "notSampled": "not_sample", "invertedSampled": "inverted_sample", "invertedNotSampled": "inverted_not_sample"}
+
+
+def looked_at(admin, path):
+    """What an address for those in charge tells as JSON."""
+    status, fields, body = asked(admin, get(path))
+    want(f"the answer to {path}", (status, fields["content-type"], int(fields["content-length"]), body[-1:]), (200, "application/json", len(body), "\n"))
+    return json.loads(body)
+
+
+def decided_by(admin):
+    """How many traces were decided."""
+    return sum(number for name, number in scrape(admin).items() if name.startswith("tsc_traces_decided_total"))
+
+
+def told_of(number, is_error, is_slow, has_value, spans):
+    """What is told of a decided trace, but for its moment and its wait."""
+    verdict, policy, said = expected(is_error, is_slow, has_value)
+    return {
+        "trace_id": f"{number:032x}",
+        "state": "decided",
+        "decided_ms": 0,
+        "verdict": "kept" if verdict == "sampled" else "not_kept",
+        "because": "policy" if policy else "none_agreed",
+        "policy": policy,
+        "spans": spans,
+        "wait_ms": 0,
+        "ended_wait": "wait",
+        "answers": [{"policy": name, "answer": ANSWERS[one]} for name, one in zip(NAMES, said)],
+    }
+
+
+def last_decisions(start):
+    """/decisions.json tells the last hundred traces of those that were decided since somebody looked, the newest first, and /trace/ID.json one of the last
+    thousand: nothing is told of what was decided before, though the file has it."""
+    rng, admin = random.Random(72), free_port()
+    with tempfile.TemporaryDirectory() as folder:
+        path = os.path.join(folder, "decisions.jsonl")
+        collector = start(f'admin = "127.0.0.1:{admin}"\ndecisions = "{path}"\ndecision_wait_ms = 200\ntick_ms = 20\n' + THREE)
+        traces = {number: (rng.random() < 0.3, rng.random() < 0.3, rng.random() < 0.3, rng.randrange(1, 5)) for number in range(1, 171)}
+        client = collector.client()
+
+        def send(numbers):
+            for number in numbers:
+                client.send(post(body_of(trace(number, *traces[number]))))
+                want("the answer", client.answer()[::2], (200, "{}"))
+
+        send(range(1, 21))
+        comes_to("the decisions at which nobody looks", lambda: decided_by(admin), 20)
+        began = 1000 * time.time()
+        want("what is told of these", looked_at(admin, "/decisions.json")["decisions"], [])
+        send(range(21, 171))
+        comes_to("the decisions", lambda: decided_by(admin), 170)
+        told = looked_at(admin, "/decisions.json")
+        want("the keys", (list(told), told["remembers"]), (["now_ms", "remembers", "decisions"], 1000))
+        want("the traces", [int(it["trace_id"], 16) for it in told["decisions"]], list(range(170, 70, -1)))
+        for it in told["decisions"]:
+            number = int(it["trace_id"], 16)
+            want("the keys of a trace", list(it), list(told_of(number, *traces[number])))
+            want("a trace", {**it, "decided_ms": 0, "wait_ms": 0}, told_of(number, *traces[number]))
+            if not began <= it["decided_ms"] <= told["now_ms"] + 1000 or not 200 <= it["wait_ms"] < PATIENCE * 1000:
+                raise Failure(f"the moments of {it} at {told['now_ms']}")
+            want("the same trace by its id", looked_at(admin, f"/trace/{number:032X}.json"), it)
+        for number in range(21, 71):
+            want("a trace before the last hundred", {**looked_at(admin, f"/trace/{number:032x}.json"), "decided_ms": 0, "wait_ms": 0}, told_of(number, *traces[number]))
+        for number in (0, 1, 20, 171, 2**128 - 1):
+            want("a trace of which nothing is told", looked_at(admin, f"/trace/{number:032x}.json"), {"trace_id": f"{number:032x}", "state": "unknown"})
+        client.close()
+        ask_in_charge(admin, "/close")
+        collector.end()
+        want("the lines", sorted(int(it["traceId"], 16) for it in read(path)), sorted(traces))
+
+
+def most_decisions(start):
+    """Of the decisions of several shards a thousand are remembered, the newest ones."""
+    admin = free_port()
+    collector = start(f'admin = "127.0.0.1:{admin}"\nshards = 3\nlanes = 2\nnum_traces = 5000\ndecision_wait_ms = 500\ntick_ms = 20\n' + ALL)
+    want("the first look", looked_at(admin, "/decisions.json")["decisions"], [])
+    client = collector.client()
+    for first, wanted in ((1, 500), (501, 3000)):
+        client.send(post(body_of([span for number in range(first, wanted + 1) for span in trace(number, False, False, False)])))
+        want("the answer", client.answer()[::2], (200, "{}"))
+        comes_to("the decisions", lambda most=wanted: decided_by(admin), wanted)
+    told = looked_at(admin, "/decisions.json")["decisions"]
+    want("how many are told", len({it["trace_id"] for it in told}), 100)
+    want("what they say", {(it["verdict"], it["policy"], it["ended_wait"], it["spans"]) for it in told}, {("kept", "all", "wait", 1)})
+    states = [looked_at(admin, f"/trace/{number:032x}.json")["state"] for number in range(1, 3001, 10)]
+    want("the oldest", set(states[:50]), {"unknown"})
+    if not 50 < states.count("decided") < 150:
+        raise Failure(f"of 300 traces of 3000 these are remembered: {states}")
+    want("each that is told is found", [looked_at(admin, f"/trace/{it['trace_id']}.json") for it in told], told)
+    client.close()
+    ask_in_charge(admin, "/close")
+    collector.end()
+
+
+def left_and_decided(start):
+    """A trace that leaves a full buffer is told as evicted; of one that comes again later the decision is told, as the newest. So is why it was decided then."""
+    admin = free_port()
+    settings = "num_traces = 2\ndecision_wait_ms = 3600000\nroot_wait_ms = 50\nmaximum_trace_size_bytes = 2000\ntick_ms = 10\n"
+    collector = start(f'admin = "127.0.0.1:{admin}"\n' + settings + ALL)
+    want("the first look", looked_at(admin, f"/trace/{4:032x}.json"), {"trace_id": f"{4:032x}", "state": "unknown"})
+    child = lambda number, span, **more: {"traceId": f"{number:032x}", "spanId": f"{span:016x}", "parentSpanId": f"{99:016x}", **more}
+    for number in (4, 5, 6):
+        collector.ask(post(body_of([child(number, 1), child(number, 2)])))
+    comes_to("the evicted one", lambda: [{**it, "decided_ms": 0} for it in looked_at(admin, "/decisions.json")["decisions"]], [{"trace_id": f"{4:032x}", "state": "evicted", "decided_ms": 0, "spans": 2}])
+    want("the keys", list(looked_at(admin, f"/trace/{4:032x}.json")), ["trace_id", "state", "decided_ms", "spans"])
+    collector.ask(post(body_of([child(7, 1, name="x" * 3000)])))
+    said = lambda it: [int(it["trace_id"], 16), it["state"], *(it.get(key) for key in ("verdict", "because", "policy", "ended_wait", "spans"))]
+    told = lambda: [said(it) for it in looked_at(admin, "/decisions.json")["decisions"]]
+    big, left = [7, "decided", "not_kept", "too_big", None, "size", 1], lambda number: [number, "evicted", None, None, None, None, 2]
+    comes_to("the big one", told, [big, left(5), left(4)])
+    want("what nobody was asked", looked_at(admin, f"/trace/{7:032x}.json")["answers"], [{"policy": "all", "answer": "not_asked"}])
+    collector.ask(post(body_of([{"traceId": f"{4:032x}", "spanId": f"{3:016x}"}])))
+    again = [4, "decided", "kept", "policy", "all", "root", 1]
+    comes_to("the one that came again", lambda: told()[:1], [again])
+    want("what is told of it", said(looked_at(admin, f"/trace/{4:032x}.json")), again)
+    ask_in_charge(admin, "/close")
+    collector.end()
+
+
+def odd_looks(start):
+    """Near targets aren't found, HEAD has no body, and nothing is told where numbers alone are, nor at the first address; a POST is refused, by a page of
+    another site as everywhere."""
+    admin, metrics = free_port(), free_port()
+    collector = start(f'admin = "127.0.0.1:{admin}"\nmetrics = "127.0.0.1:{metrics}"\n' + ALL)
+    one, missing = f"/trace/{1:032x}.json", (404, '{"message":"not found"}')
+    for port in (metrics, collector.port):
+        for path in ("/decisions.json", one):
+            want(f"{path} at {port}", asked(port, get(path))[::2], missing)
+    near = ["/decisions", "/decisions.json/", "/decisions.json?last=100", "/trace/", "/trace/.json", one[:-5], one.replace(".json", ".JSON"), f"/trace/{1:031x}.json", f"/trace/{1:033x}.json", f"/trace/g{1:031x}.json", "/trace" + one]
+    for path in near:
+        want(path, asked(admin, get(path))[::2], missing)
+    for path in ("/decisions.json", one):
+        want(f"HEAD of {path}", asked(admin, get(path, "HEAD"), False), asked(admin, get(path))[:2] + ("",))
+        got = asked(admin, post(b"", path))
+        want(f"a POST of {path}", (got[0], got[1]["allow"]), (405, "get, head"))
+        for fields in (["Origin: http://evil.example"], ["Sec-Fetch-Site: cross-site"]):
+            want(f"a POST of {path} by another site", asked(admin, post(b"", path, fields=fields))[::2], (403, '{"message":"forbidden"}'))
+    ask_in_charge(admin, "/close")
+    collector.end()
+
+
+def told_for_a_minute(start):
+    """Where nobody has looked for a minute, decisions are told no more; those that were told before stay."""
+    admin = free_port()
+    collector = start(f'admin = "127.0.0.1:{admin}"\ndecision_wait_ms = 20\ntick_ms = 10\n' + ALL)
+    told = lambda: [int(it["trace_id"], 16) for it in looked_at(admin, "/decisions.json")["decisions"]]
+    want("the first look", told(), [])
+    collector.ask(post(body_of(trace(1, False, False, False))))
+    comes_to("the first trace", told, [1])
+    looked = time.monotonic()
+    time.sleep(40)
+    collector.ask(post(body_of(trace(2, False, False, False))))
+    comes_to("the decisions", lambda: decided_by(admin), 2)
+    in_time = time.monotonic() < looked + 58
+    time.sleep(max(0, looked + 64 - time.monotonic()))
+    collector.ask(post(body_of(trace(3, False, False, False))))
+    comes_to("the decisions", lambda: decided_by(admin), 3)
+    found = told()
+    # A machine that stands still for so long may tell less.
+    if in_time or found != [1]:
+        want("what is told", found, [2, 1])
+    collector.ask(post(body_of(trace(4, False, False, False))))
+    comes_to("what is told from the next look on", told, [4, *found])
+    ask_in_charge(admin, "/close")
+    collector.end()
+
+
 CHECKS = [each_decided, each_cause, late_spans, rotated, all_at_the_close, decisions_cannot_be_written, decisions_of_a_full_disk]
+CHECKS += [last_decisions, most_decisions, left_and_decided, odd_looks, told_for_a_minute]

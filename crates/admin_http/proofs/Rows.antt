@@ -3,6 +3,7 @@
 use Rattle.std.proofs.Common.{◌≡◌, true, false, refl, List, ℕ, [], ◌∷◌, ◌++◌, Some, None}
 use Rattle.std.specs.Prelude.{codes, map}
 use Rattle.std.specs.Fmt.{digits}
+use Rattle.hex.proofs.OnLiterals.{hex_on_literals}
 use Rattle.http_text.specs.Lines.{Whole, Waits, cut, head_len}
 use Rattle.http_text.specs.declared.request.RequestRefusal.TheVariants.{BadRequest, HeadTooLarge, MethodNotAllowed, NotFound as NotFoundThere}
 use Rattle.http_text.specs.declared.request.HeadVerdict.{HeadVerdict}
@@ -12,21 +13,39 @@ use Rattle.http_text.specs.Head.{verdict_by}
 use Rattle.admin_http.specs.declared.asked.Method.TheVariants.{Get, Post}
 use Rattle.admin_http.specs.declared.asked.Access.TheVariants.{Full, Numbers}
 use Rattle.admin_http.specs.declared.asked.Route.{Route}
-use Rattle.admin_http.specs.declared.asked.Route.TheVariants.{Close, Reopen, Metrics, Health, Config, Status, Page, Forbidden, NotFound, WrongMethod, Bad, TooLarge}
+use Rattle.admin_http.specs.declared.asked.Route.TheVariants.{Close, Reopen, Metrics, Health, Config, Status, Decisions, Trace, Page, Forbidden, NotFound, WrongMethod, Bad, TooLarge}
 use Rattle.admin_http.specs.declared.ends.TheConstants.{PIECE_LIMIT, QUIET_LIMIT, READ_LIMIT}
 use Rattle.admin_http.specs.declared.asked.AdminRequest.{AdminRequest}
 use Rattle.admin_http.specs.Asked.{asked, asked_by, numbers_routed, refused_as, routed, nothing}
 use Rattle.admin_http.specs.Serving.{closes, is_counted, is_harmless, reopens}
 use Rattle.admin_http.specs.Texts.{AdminState, answer_of, state}
 
--- the seven targets, each by its method
-seven_targets : map (routed (codes "POST")) (codes "/close" ∷ codes "/reopen" ∷ [])
-    ++ map (routed (codes "GET")) (codes "/metrics" ∷ codes "/healthz" ∷ codes "/config" ∷ codes "/status.json" ∷ codes "/" ∷ [])
-    ≡ Close ∷ Reopen ∷ Metrics ∷ Health ∷ Config ∷ Status ∷ Page ∷ []
-seven_targets = refl
+-- the eight targets that are texts, each by its method
+eight_targets : map (routed (codes "POST")) (codes "/close" ∷ codes "/reopen" ∷ [])
+    ++ map (routed (codes "GET")) (codes "/metrics" ∷ codes "/healthz" ∷ codes "/config" ∷ codes "/status.json" ∷ codes "/decisions.json" ∷ codes "/" ∷ [])
+    ≡ Close ∷ Reopen ∷ Metrics ∷ Health ∷ Config ∷ Status ∷ Decisions ∷ Page ∷ []
+eight_targets = refl
+
+-- a trace, by digits of either case, all of them zeros as well; by another method; and near targets: a digit less, one
+-- more, one that is none, no ending, another one
+of_traces : map (routed (codes "GET")) (codes "/trace/0123456789abcdefFEDCBA9876543210.json" ∷ codes "/trace/00000000000000000000000000000000.json" ∷ [])
+    ++ map (routed (codes "POST")) (codes "/trace/00000000000000000000000000000000.json" ∷ codes "/decisions.json" ∷ [])
+    ≡ Trace (1 ∷ 35 ∷ 69 ∷ 103 ∷ 137 ∷ 171 ∷ 205 ∷ 239 ∷ 254 ∷ 220 ∷ 186 ∷ 152 ∷ 118 ∷ 84 ∷ 50 ∷ 16 ∷ [])
+    ∷ Trace (0 ∷ 0 ∷ 0 ∷ 0 ∷ 0 ∷ 0 ∷ 0 ∷ 0 ∷ 0 ∷ 0 ∷ 0 ∷ 0 ∷ 0 ∷ 0 ∷ 0 ∷ 0 ∷ [])
+    ∷ WrongMethod Get ∷ WrongMethod Get ∷ []
+unfolding hex_on_literals
+of_traces = refl
+
+near_traces : map (routed (codes "GET"))
+    (codes "/trace/0123456789abcdef0123456789abcde.json" ∷ codes "/trace/0123456789abcdef0123456789abcdef0.json" ∷ codes "/trace/0123456789abcdef0123456789abcdeg.json"
+    ∷ codes "/trace/0123456789abcdef0123456789abcdef" ∷ codes "/trace/0123456789abcdef0123456789abcdef.html" ∷ codes "/Trace/0123456789abcdef0123456789abcdef.json"
+    ∷ codes "/trace/.json" ∷ codes "/decisions.json?last=100" ∷ codes "/decisions" ∷ [])
+    ≡ NotFound ∷ NotFound ∷ NotFound ∷ NotFound ∷ NotFound ∷ NotFound ∷ NotFound ∷ NotFound ∷ NotFound ∷ []
+unfolding hex_on_literals
+near_traces = refl
 
 -- where numbers alone may be asked for: two of them, and no other is there, by any method
-two_targets : map (numbers_routed (codes "GET")) (codes "/metrics" ∷ codes "/healthz" ∷ codes "/config" ∷ codes "/close" ∷ codes "/reopen" ∷ codes "/metrics/" ∷ codes "/status.json" ∷ codes "/" ∷ [])
+two_targets : map (numbers_routed (codes "GET")) (codes "/metrics" ∷ codes "/healthz" ∷ codes "/config" ∷ codes "/close" ∷ codes "/reopen" ∷ codes "/metrics/" ∷ codes "/decisions.json" ∷ codes "/" ∷ [])
     ++ map (numbers_routed (codes "POST")) (codes "/metrics" ∷ codes "/healthz" ∷ codes "/config" ∷ codes "/close" ∷ codes "/reopen" ∷ [])
     ≡ Metrics ∷ Health ∷ NotFound ∷ NotFound ∷ NotFound ∷ NotFound ∷ NotFound ∷ NotFound
     ∷ WrongMethod Get ∷ WrongMethod Get ∷ NotFound ∷ NotFound ∷ NotFound ∷ []
@@ -81,13 +100,13 @@ of_another_site = refl
 -- which routes have power, which are harmless (one that asks for the configuration has none, and isn't), and which tell
 -- what was counted
 routes : List Route
-routes = Close ∷ Reopen ∷ Metrics ∷ Health ∷ Config ∷ Status ∷ Page ∷ Forbidden ∷ NotFound ∷ WrongMethod Get ∷ WrongMethod Post ∷ Bad ∷ TooLarge ∷ []
+routes = Close ∷ Reopen ∷ Metrics ∷ Health ∷ Config ∷ Status ∷ Decisions ∷ Trace (7 ∷ []) ∷ Page ∷ Forbidden ∷ NotFound ∷ WrongMethod Get ∷ WrongMethod Post ∷ Bad ∷ TooLarge ∷ []
 
 powers : map closes routes ++ (map reopens routes ++ (map is_harmless routes ++ map is_counted routes))
-    ≡ (true ∷ false ∷ false ∷ false ∷ false ∷ false ∷ false ∷ false ∷ false ∷ false ∷ false ∷ false ∷ false ∷ [])
-    ++ ((false ∷ true ∷ false ∷ false ∷ false ∷ false ∷ false ∷ false ∷ false ∷ false ∷ false ∷ false ∷ false ∷ [])
-    ++ ((false ∷ false ∷ true ∷ true ∷ false ∷ true ∷ false ∷ true ∷ true ∷ true ∷ true ∷ true ∷ true ∷ [])
-    ++ (false ∷ false ∷ true ∷ false ∷ false ∷ true ∷ false ∷ false ∷ false ∷ false ∷ false ∷ false ∷ false ∷ [])))
+    ≡ (true ∷ false ∷ false ∷ false ∷ false ∷ false ∷ false ∷ false ∷ false ∷ false ∷ false ∷ false ∷ false ∷ false ∷ false ∷ [])
+    ++ ((false ∷ true ∷ false ∷ false ∷ false ∷ false ∷ false ∷ false ∷ false ∷ false ∷ false ∷ false ∷ false ∷ false ∷ false ∷ [])
+    ++ ((false ∷ false ∷ true ∷ true ∷ false ∷ true ∷ false ∷ false ∷ false ∷ true ∷ true ∷ true ∷ true ∷ true ∷ true ∷ [])
+    ++ (false ∷ false ∷ true ∷ false ∷ false ∷ true ∷ true ∷ true ∷ false ∷ false ∷ false ∷ false ∷ false ∷ false ∷ false ∷ [])))
 unfolding routes
 powers = refl
 

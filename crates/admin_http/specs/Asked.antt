@@ -1,5 +1,7 @@
 -- What the head at the front of a stream asks for (RFC 9112, sections 2 to 3), by what `http_text` says of heads.
-use Rattle.std.specs.Prelude.{◌≡◌, ◌&&◌, ◌||◌, ℕ, Bool, false, List, map, ◌++◌, Option, Some, None, take, codes, bytes_eq, if◌then◌else◌}
+use Rattle.std.specs.Prelude.{◌≡◌, ◌==◌, ◌&&◌, ◌||◌, ℕ, Bool, false, List, map, ◌++◌, Option, Some, None, length, take, drop, codes, bytes_eq, if◌then◌else◌}
+use Rattle.std.specs.Result.{result_ok}
+use Rattle.hex.specs.Hex.{decode_sized}
 use Rattle.httparse.specs.Grammar.{RequestHead}
 use Rattle.http_text.specs.Lines.{Cut, Whole, Waits, TooLong, cut, head_len}
 use Rattle.httparse.specs.Spans.{name_and_value}
@@ -14,7 +16,7 @@ use Rattle.admin_http.specs.declared.asked.Method.TheVariants.{Get, Post}
 use Rattle.admin_http.specs.declared.asked.Access.{Access}
 use Rattle.admin_http.specs.declared.asked.Access.TheVariants.{Full, Numbers}
 use Rattle.admin_http.specs.declared.asked.Route.{Route}
-use Rattle.admin_http.specs.declared.asked.Route.TheVariants.{Close, Reopen, Metrics, Health, Config, Status, Page, Forbidden, NotFound, WrongMethod, Bad, TooLarge}
+use Rattle.admin_http.specs.declared.asked.Route.TheVariants.{Close, Reopen, Metrics, Health, Config, Status, Decisions, Trace, Page, Forbidden, NotFound, WrongMethod, Bad, TooLarge}
 use Rattle.admin_http.specs.declared.asked.AdminRequest.{AdminRequest}
 
 -- a method by which a target is asked; where it is `GET` it may be `HEAD` (RFC 9110, section 9.3.2)
@@ -33,6 +35,21 @@ numbers_routed method target =
     else (if bytes_eq target (codes "/healthz") then only_by Get method Health
     else NotFound)
 
+-- the bytes of the id in the target of a trace: `/trace/`, 32 hex digits of either case, and `.json`
+abbrev pub trace_in : (target : List ℕ) → Option (List ℕ)
+trace_in target =
+    if (length target == 44) && (bytes_eq (take 7 target) (codes "/trace/") && bytes_eq (drop 32 (drop 7 target)) (codes ".json"))
+    then result_ok (decode_sized (take 32 (drop 7 target)) 16) else None
+
+-- a target with such an id is asked by `GET`; what another one is for, is left
+abbrev pub trace_or : (id : Option (List ℕ)) → (method : List ℕ) → (other : Route) → Route
+trace_or (Some id) method other = only_by Get method (Trace id)
+trace_or None method other = other
+
+-- where a request goes that is for a trace, or for numbers or health
+abbrev pub by_trace : (method target : List ℕ) → Route
+by_trace method target = trace_or (trace_in target) method (numbers_routed method target)
+
 -- where one goes at an address at which everything may be asked for
 abbrev pub routed : (method target : List ℕ) → Route
 routed method target =
@@ -41,7 +58,8 @@ routed method target =
     else (if bytes_eq target (codes "/config") then only_by Get method Config
     else (if bytes_eq target (codes "/status.json") then only_by Get method Status
     else (if bytes_eq target (codes "/") then only_by Get method Page
-    else numbers_routed method target))))
+    else (if bytes_eq target (codes "/decisions.json") then only_by Get method Decisions
+    else by_trace method target)))))
 
 -- the answer to `HEAD` has no body
 abbrev pub asked : Route → (is_head : Bool) → AdminRequest

@@ -5,7 +5,7 @@ use Rattle.http_text.specs.Lines.{Waits, cut, head_len}
 use Rattle.admin_http.specs.declared.asked.AdminRequest.{AdminRequest}
 use Rattle.admin_http.specs.declared.asked.Access.{Access}
 use Rattle.admin_http.specs.declared.asked.Route.{Route}
-use Rattle.admin_http.specs.declared.asked.Route.TheVariants.{Close, Reopen, Metrics, Config, Status, Page}
+use Rattle.admin_http.specs.declared.asked.Route.TheVariants.{Close, Reopen, Metrics, Config, Status, Decisions, Trace, Page}
 use Rattle.admin_http.specs.declared.ends.AdminEnd.{AdminEnd}
 use Rattle.admin_http.specs.declared.ends.AdminEnd.TheVariants.{Heard, Unheard}
 use Rattle.admin_http.specs.declared.ends.Portion.{Portion}
@@ -17,10 +17,12 @@ use Rattle.admin_http.specs.declared.ends.PieceRead.TheVariants.{More, End, NoRo
 use Rattle.admin_http.specs.Asked.{IsHeard}
 use Rattle.admin_http.specs.Texts.{AdminState, AdminTexts, answer_of}
 
--- a route asks for what the collector has counted
+-- a route asks for what the collector has counted, or decided
 abbrev pub is_counted : Route → Bool
 is_counted Metrics = true
 is_counted Status = true
+is_counted Decisions = true
+is_counted (Trace id) = true
 is_counted _ = false
 
 -- what an answer tells of is what the collector said: whether it is closing, its texts, and, where that is asked for,
@@ -102,11 +104,14 @@ abbrev pub asked_to_reopen : AdminEnd → Bool
 asked_to_reopen (Heard asked sent) = reopens asked.route
 asked_to_reopen (Unheard silence) = false
 
--- a route that has no power, and whose answer tells nothing of the configuration, nor is the page that shows it
+-- a route that has no power, and whose answer tells nothing of the configuration, nor names its policies, nor is the page
+-- that shows it
 abbrev pub is_harmless : Route → Bool
 is_harmless Close = false
 is_harmless Reopen = false
 is_harmless Config = false
+is_harmless Decisions = false
+is_harmless (Trace id) = false
 is_harmless Page = false
 is_harmless _ = true
 

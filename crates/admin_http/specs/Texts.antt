@@ -2,7 +2,7 @@
 use Rattle.std.specs.Prelude.{◌≡◌, ℕ, Bool, List, [], ◌++◌, length, if◌then◌else◌, codes, decimal}
 use Rattle.admin_http.specs.declared.asked.Method.TheVariants.{Get, Post}
 use Rattle.admin_http.specs.declared.asked.Route.{Route}
-use Rattle.admin_http.specs.declared.asked.Route.TheVariants.{Close, Reopen, Metrics, Health, Config, Status, Page, Forbidden, NotFound, WrongMethod, Bad, TooLarge}
+use Rattle.admin_http.specs.declared.asked.Route.TheVariants.{Close, Reopen, Metrics, Health, Config, Status, Decisions, Trace, Page, Forbidden, NotFound, WrongMethod, Bad, TooLarge}
 use Rattle.admin_http.specs.declared.asked.Access.{Access}
 use Rattle.admin_http.specs.declared.asked.AdminRequest.{AdminRequest}
 use Rattle.admin_http.specs.Asked.{asked_by, route_by}
@@ -51,6 +51,8 @@ page_of Metrics s = page 200 (codes "OK") (codes "text/plain; version=0.0.4; cha
 page_of Health s = health_page s.is_stopping
 page_of Config s = page 200 (codes "OK") (codes "application/toml") s.texts.config
 page_of Status s = json 200 (codes "OK") s.counted
+page_of Decisions s = json 200 (codes "OK") s.counted
+page_of (Trace id) s = json 200 (codes "OK") s.counted
 page_of Page s = page 200 (codes "OK") (codes "text/html; charset=utf-8") s.texts.page
 page_of Forbidden s = json 403 (codes "Forbidden") (codes "{\"message\":\"forbidden\"}")
 page_of NotFound s = json 404 (codes "Not Found") (codes "{\"message\":\"not found\"}")

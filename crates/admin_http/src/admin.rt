@@ -2,7 +2,7 @@
 ghost use Rattle.std.specs.Prelude.{◌≡◌, ℕ, List, Bool, true, IfOk, string_bytes};
 ghost use Rattle.admin_http.specs.Texts.{AdminTexts};
 ghost use Rattle.admin_http.specs.declared.asked.Route.{Route};
-ghost use Rattle.admin_http.specs.declared.asked.Route.TheVariants.{Metrics, Status};
+ghost use Rattle.admin_http.specs.declared.asked.Route.TheVariants.{Decisions, Metrics, Status, Trace};
 
 use std::alloc::{AllocError, Global};
 
@@ -42,6 +42,14 @@ pub trait Admin {
     /// Its counts, now and over the last minutes, as JSON.
     fn status(&self, alloc: Global) -> Result<String, AllocError>
         ensures { IfOk result (λ text. tells self.now Status (string_bytes text)) };
+
+    /// What became of the last traces, as JSON.
+    fn decisions(&self, alloc: Global) -> Result<String, AllocError>
+        ensures { IfOk result (λ text. tells self.now Decisions (string_bytes text)) };
+
+    /// What became of the trace whose id has these bytes, as JSON.
+    fn trace(&self, alloc: Global, id: [u8; 16]) -> Result<String, AllocError>
+        ensures { IfOk result (λ text. tells self.now (Trace id) (string_bytes text)) };
 
     /// Its configuration, in TOML.
     fn config(&self) -> &str

@@ -12,8 +12,8 @@ pub enum Method {
 /// What may be asked for at an address.
 #[derive(Clone, Copy, PartialEq, Eq)]
 pub enum Access {
-    /// Everything: that the collector closes and opens its output anew, its numbers, its health, its configuration, and
-    /// the page that shows them.
+    /// Everything: that the collector closes and opens its output anew, its numbers, its health, its configuration, what
+    /// it decided, and the page that shows them.
     Full,
     /// Its numbers and its health alone.
     Numbers,
@@ -34,6 +34,10 @@ pub enum Route {
     Config,
     /// `GET /status.json`: its counts, now and over the last minutes, as JSON.
     Status,
+    /// `GET /decisions.json`: what became of the last traces, as JSON.
+    Decisions,
+    /// `GET /trace/ID.json`: what became of the trace whose id has these bytes, as JSON.
+    Trace([u8; 16]),
     /// `GET /`: a page that shows its numbers, its health and its configuration.
     Page,
     /// 403: a `POST` that a page of another site may have sent.

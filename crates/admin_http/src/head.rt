@@ -4,16 +4,26 @@ ghost use Rattle.httparse.specs.Grammar.{RequestHead};
 ghost use Rattle.httparse.specs.Spans.{IsRequestWithin};
 ghost use Rattle.http_text.specs.Head.{IsHead};
 ghost use Rattle.http_text.specs.Spans.{IsHeadAt};
-ghost use Rattle.admin_http.specs.Asked.{IsAsked, IsHeard, asked_by, is_by, numbers_routed, only_by, refused_as, route_by, routed};
+ghost use Rattle.admin_http.specs.Asked.{IsAsked, IsHeard, asked_by, by_trace, is_by, numbers_routed, only_by, refused_as, route_by, routed, trace_in};
 ghost use Rattle.http_text.specs.Fields.{is_foreign};
 ghost use Rattle.httparse.specs.Spans.{name_and_value};
 
 use crate::asked::{Access, AdminRequest, Method, Route};
+use hex::FromHex;
 use http_text::{
     Allowed, Cutting, FIELD_LIMIT, HeadVerdict, PartSearch, RequestRefusal, SearchPlace, cut_on,
     is_foreign, judge, read_head,
 };
 use httparse::spans::EMPTY_HEADER_SPAN;
+
+/// The bytes of the target of a trace: what stands in front of the id, its digits, and what stands behind.
+const TRACE_TARGET: usize = 44;
+
+/// Those in front of the id.
+const FRONT: usize = 7;
+
+/// The hex digits of the id.
+const DIGITS: usize = 32;
 
 /// What is allowed makes no difference: a verdict only tells whether the text is a head.
 const NOTHING: Allowed = Allowed {
@@ -57,6 +67,31 @@ fn numbers_routed(method: &[u8], target: &[u8]) -> Route
     Route::NotFound
 }
 
+/// The bytes of the id in the target of a trace: `/trace/`, 32 hex digits of either case, and `.json`.
+fn trace_in(target: &[u8]) -> Option<[u8; 16]>
+    ensures { result ≡ trace_in target.now }
+{
+    if target.len() != TRACE_TARGET {
+        return None;
+    }
+    let rest = &target[FRONT..];
+    if &target[..FRONT] == b"/trace/".as_slice() && &rest[DIGITS..] == b".json".as_slice() {
+        <[u8; 16]>::from_hex(&rest[..DIGITS]).ok()
+    } else {
+        None
+    }
+}
+
+/// Where a request goes that is for a trace, where its target has an id, or for numbers or health.
+fn by_trace(method: &[u8], target: &[u8]) -> Route
+    ensures { result ≡ by_trace method.now target.now }
+{
+    match trace_in(target) {
+        Some(id) => only_by(Method::Get, method, Route::Trace(id)),
+        None => numbers_routed(method, target),
+    }
+}
+
 /// Where one goes at an address at which everything may be asked for.
 fn routed(method: &[u8], target: &[u8]) -> Route
     ensures { result ≡ routed method.now target.now }
@@ -76,7 +111,10 @@ fn routed(method: &[u8], target: &[u8]) -> Route
     if target == b"/".as_slice() {
         return only_by(Method::Get, method, Route::Page);
     }
-    numbers_routed(method, target)
+    if target == b"/decisions.json".as_slice() {
+        return only_by(Method::Get, method, Route::Decisions);
+    }
+    by_trace(method, target)
 }
 
 /// Where a request goes; `foreign`: a page of another site may have sent it. What has power is asked by `POST`.

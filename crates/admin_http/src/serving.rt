@@ -47,6 +47,8 @@ fn counted_text<A: Admin>(alloc: Global, admin: &A, route: Route) -> Result<Stri
     match route {
         Route::Metrics => admin.metrics(alloc),
         Route::Status => admin.status(alloc),
+        Route::Decisions => admin.decisions(alloc),
+        Route::Trace(id) => admin.trace(alloc, id),
         _ => Ok(String::new(alloc)),
     }
 }

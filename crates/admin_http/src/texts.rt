@@ -56,7 +56,7 @@ fn page_of<'a>(route: Route, told: Told<'a>) -> AdminPage<'a>
             media: "application/toml",
             body: told.config,
         },
-        Route::Status => AdminPage {
+        Route::Status | Route::Decisions | Route::Trace(_) => AdminPage {
             status: 200,
             reason: "OK",
             media: "application/json",

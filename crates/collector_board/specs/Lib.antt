@@ -1,2 +1,3 @@
--- Stalls: for how long a write has been under way.
+-- Stalls: for how long a write has been under way. Looks: for how long decisions are told after somebody looked.
+pub mod Looks
 pub mod Stalls

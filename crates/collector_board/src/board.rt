@@ -1,5 +1,6 @@
 //! What all threads of a run have counted, for readers while it runs.
-use crate::decision_queue::{DecisionQueue, TraceNews};
+use crate::decision_listeners::DecisionListeners;
+use crate::decision_queue::DecisionQueue;
 use batch_post::AttemptOutcome;
 use decision_line::{DecidedTrace, EvictedTrace, LateSpans, Said};
 use drop_ledger::{Count, Report};
@@ -100,8 +101,8 @@ pub struct Board {
     failing_since: AtomicU64,
     /// The system's number of the error by which that began, and 0: nothing was taken.
     failing_code: AtomicU64,
-    /// Where decisions wait until they are written, if they are.
-    decisions: Option<DecisionQueue>,
+    /// To whom decisions are told.
+    listeners: DecisionListeners,
 }
 
 impl Board {
@@ -111,7 +112,6 @@ impl Board {
         for _ in 0..shards {
             cells.push(ShardCells::new())?;
         }
-        let policies = policy_cells(alloc, policies)?;
         Ok(Board {
             received: AtomicU64::new(0),
             handed: AtomicU64::new(0),
@@ -126,7 +126,7 @@ impl Board {
             lines: AtomicU64::new(0),
             output_bytes: AtomicU64::new(0),
             memory_bytes: AtomicU64::new(0),
-            policies,
+            policies: policy_cells(alloc, policies)?,
             late_sampled: AtomicU64::new(0),
             shards: cells,
             has_failed: AtomicBool::new(false),
@@ -140,19 +140,23 @@ impl Board {
             clock_jumps: AtomicU64::new(0),
             failing_since: AtomicU64::new(0),
             failing_code: AtomicU64::new(0),
-            decisions: None,
+            listeners: DecisionListeners::new(alloc, policies)?,
         })
     }
 
     /// From now on decisions are kept until they are taken.
     pub fn keep_decisions(&mut self, alloc: Global) -> Result<(), AllocError> {
-        self.decisions = Some(DecisionQueue::new(alloc)?);
-        Ok(())
+        self.listeners.keep(alloc)
     }
 
     /// Where decisions wait until they are written, if they are.
     pub fn decision_queue(&self) -> Option<&DecisionQueue> {
-        self.decisions.as_ref()
+        self.listeners.queue()
+    }
+
+    /// To whom decisions are told.
+    pub fn listeners(&self) -> &DecisionListeners {
+        &self.listeners
     }
 
     /// The counts as they are now.
@@ -428,25 +432,19 @@ impl Watcher for Board {
     }
 
     fn hears_decisions(&self) -> bool {
-        self.decisions.is_some()
+        self.listeners.hears()
     }
 
     fn trace_decided<R: Wait>(&self, rt: &R, trace: &DecidedTrace, said: &[Said]) {
-        if let Some(queue) = &self.decisions {
-            queue.put(rt, TraceNews::decided(*trace, said));
-        }
+        self.listeners.decided(rt, trace, said);
     }
 
     fn trace_evicted<R: Wait>(&self, rt: &R, trace: &EvictedTrace) {
-        if let Some(queue) = &self.decisions {
-            queue.put(rt, TraceNews::Evicted(*trace));
-        }
+        self.listeners.evicted(rt, trace);
     }
 
     fn spans_late<R: Wait>(&self, rt: &R, late: &LateSpans) {
-        if let Some(queue) = &self.decisions {
-            queue.put(rt, TraceNews::Late(*late));
-        }
+        self.listeners.late(rt, late);
     }
 
     fn handed_late(&self) {

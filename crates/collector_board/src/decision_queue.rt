@@ -1,6 +1,7 @@
 //! What shards tell of their decisions, until it is written.
 use crossbeam_queue::ArrayQueue;
-use decision_line::{DecidedTrace, EvictedTrace, LateSpans, Said};
+use decision_json::{MOST_SAID, TraceNews};
+use decision_line::LateSpans;
 use policy_eval::MOST_POLICIES;
 use std::alloc::{AllocError, Global};
 use std::sync::Wait;
@@ -9,40 +10,21 @@ use std::sync::atomic::{AtomicU64, Ordering};
 /// At most this many decisions wait until they are written, some 10 MiB.
 const MOST_WAITING: usize = 65_536;
 
-/// What became of a trace.
-#[derive(Clone, Copy)]
-pub enum TraceNews {
-    /// It was decided, and the first so many policies said this.
-    Decided {
-        trace: DecidedTrace,
-        said: [Said; MOST_POLICIES],
-        asked: usize,
-    },
-    /// It left the full buffer undecided.
-    Evicted(EvictedTrace),
-    /// Spans of it came late.
-    Late(LateSpans),
-}
+const _: () = prove!(MOST_SAID == MOST_POLICIES);
 
-impl TraceNews {
-    /// A trace was decided, and the first policies said this.
-    pub fn decided(trace: DecidedTrace, told: &[Said]) -> TraceNews {
-        let mut said = [Said::NotAsked; MOST_POLICIES];
-        let mut asked = 0;
-        for one in told {
-            if asked < said.len() {
-                said[asked] = *one;
-                asked += 1;
-            }
-        }
-        TraceNews::Decided { trace, said, asked }
-    }
+/// What a line is written for.
+#[derive(Clone, Copy)]
+pub enum LineNews {
+    /// What became of a trace.
+    Trace(TraceNews),
+    /// Spans that came late.
+    Late(LateSpans),
 }
 
 /// Decisions that shards told and nobody has taken yet.
 #[derive(Drop)]
 pub struct DecisionQueue {
-    waiting: ArrayQueue<TraceNews>,
+    waiting: ArrayQueue<LineNews>,
     lost: AtomicU64,
 }
 
@@ -55,16 +37,16 @@ impl DecisionQueue {
         })
     }
 
-    /// Puts what became of a trace behind what waits, and counts it as lost where there is no room: a shard never waits
+    /// Puts what was told behind what waits, and counts it as lost where there is no room: a shard never waits
     /// for its decisions to be written.
-    pub fn put<R: Wait>(&self, rt: &R, news: TraceNews) {
+    pub fn put<R: Wait>(&self, rt: &R, news: LineNews) {
         if self.waiting.push(rt, news).is_err() {
             self.loses(1);
         }
     }
 
     /// Takes what was told first, if anything waits.
-    pub fn take<R: Wait>(&self, rt: &R) -> Option<TraceNews> {
+    pub fn take<R: Wait>(&self, rt: &R) -> Option<LineNews> {
         self.waiting.pop(rt)
     }
 

@@ -9,7 +9,9 @@
 #![tactic(auto)]
 
 mod board;
+mod decision_listeners;
 mod decision_queue;
+mod decision_ring;
 mod export_watch;
 mod output_stall;
 mod stop_mark;
@@ -18,7 +20,9 @@ mod watched_destination;
 mod write_watch;
 
 pub use board::Board;
-pub use decision_queue::{DecisionQueue, TraceNews};
+pub use decision_listeners::{DecisionListeners, LOOKED_FOR};
+pub use decision_queue::{DecisionQueue, LineNews};
+pub use decision_ring::{DecisionRing, REMEMBERED};
 pub use export_watch::ExportWatch;
 pub use output_stall::OutputStall;
 pub use stop_mark::{Closer, StopMark};

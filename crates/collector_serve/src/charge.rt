@@ -5,7 +5,8 @@ use crate::admin_door::end_admin;
 use crate::history::History;
 use crate::wall_clock::WallClock;
 use admin_http::Admin;
-use collector_board::{Board, Closer, OutputStall, StopMark};
+use collector_board::{Board, Closer, OutputStall, REMEMBERED, StopMark};
+use decision_json::{decisions_text, trace_text};
 use http_lane::{Clock as Moments, HasStopMark};
 use lane_driver::Loads;
 use metrics_text::{Metrics, metrics_text};
@@ -19,6 +20,9 @@ use std::sync::{Arc, OnceToken, Wait};
 use std::thread::Threads;
 use std::time::{Clock, Instant};
 use std::{io, thread};
+
+/// So many of the last decisions are told at once.
+const LAST: usize = 100;
 
 /// What a collector shares with those in charge of it.
 #[derive(Drop)]
@@ -187,6 +191,22 @@ impl<'c, R: Clock + Wait> Admin for InCharge<'c, R> {
         };
         let rows = self.charge.history.rows(alloc)?;
         let text = status_text(alloc, &status, &rows)?;
+        Ok(text)
+    }
+
+    fn decisions(&self, alloc: Global) -> Result<String, AllocError> {
+        let now = WallClock::new(self.rt).now();
+        let listeners = self.charge.board.listeners();
+        let news = listeners.look(self.rt, alloc, now, LAST)?;
+        let text = decisions_text(alloc, now, REMEMBERED as u64, listeners.names(), &news)?;
+        Ok(text)
+    }
+
+    fn trace(&self, alloc: Global, id: [u8; 16]) -> Result<String, AllocError> {
+        let now = WallClock::new(self.rt).now();
+        let listeners = self.charge.board.listeners();
+        let news = listeners.look(self.rt, alloc, now, REMEMBERED)?;
+        let text = trace_text(alloc, listeners.names(), &id, &news)?;
         Ok(text)
     }
 

@@ -1,7 +1,8 @@
 //! The thread that writes a line for each decided and each evicted trace.
 use crate::charge::Charge;
 use crate::late_run::LateRun;
-use collector_board::{DecisionQueue, TraceNews};
+use collector_board::{DecisionQueue, LineNews};
+use decision_json::TraceNews;
 use decision_line::{LateSpans, put_decided, put_evicted, put_late};
 use http_lane::HasStopMark;
 use std::alloc::Global;
@@ -145,23 +146,30 @@ impl LinesToWrite {
         unreachable!()
     }
 
-    /// Makes the line of a trace. A late span has none of its own: it is counted with those of its trace that came right
-    /// before it.
-    fn put(&mut self, queue: &DecisionQueue, news: &TraceNews, names: &[String]) {
-        if let TraceNews::Late(late) = news {
-            if let Some(before) = self.late.with(*late) {
-                self.put_late(queue, &before);
+    /// Makes the line of what was told. A late span has none of its own: it is counted with those of its trace that came
+    /// right before it.
+    fn put(&mut self, queue: &DecisionQueue, news: &LineNews, names: &[String]) {
+        match news {
+            LineNews::Trace(trace) => {
+                self.put_run(queue);
+                self.put_trace(queue, trace, names);
             }
-            return;
+            LineNews::Late(late) => {
+                if let Some(before) = self.late.with(*late) {
+                    self.put_late(queue, &before);
+                }
+            }
         }
-        self.put_run(queue);
-        let put = match news {
+    }
+
+    /// Makes the line of a trace.
+    fn put_trace(&mut self, queue: &DecisionQueue, trace: &TraceNews, names: &[String]) {
+        let put = match trace {
             TraceNews::Decided { trace, said, asked } => {
                 let asked = (*asked).min(said.len());
                 put_decided(&mut self.text, names, &said[..asked], trace)
             }
             TraceNews::Evicted(trace) => put_evicted(&mut self.text, trace),
-            TraceNews::Late(_) => Ok(()),
         };
         if put.is_err() {
             queue.loses(1);

@@ -95,6 +95,7 @@ fn watch<W: Write + Drop, R: Wait + Clock>(
             steady = SteadyClock::new(rt);
         }
         charge.history.looks(wall, charge.board.report());
+        charge.board.listeners().passes(wall);
         look_at_numbers(rt, alloc, &mut events, charge, &mut known, now);
         look_at_backend(rt, alloc, &mut events, charge, &mut known, now);
         look_at_output(rt, alloc, &mut events, charge, &mut known, now);

@@ -2,7 +2,7 @@
 
 /// The page, in HTML.
 pub(crate) const TEXT: &str = "<!doctype html>\n\
-    <html lang=\"en\" data-feeds=\"metrics status\">\n\
+    <html lang=\"en\" data-feeds=\"metrics status decisions\">\n\
     <head>\n\
     <meta charset=\"utf-8\">\n\
     <meta name=\"viewport\" content=\"width=device-width, initial-scale=1\">\n\
@@ -539,6 +539,7 @@ pub(crate) const TEXT: &str = "<!doctype html>\n\
     async function keepRefreshing() {\n\
     \tfor (;;) {\n\
     \t\tif (!page.paused) await refresh().catch(fault => say(\"state\", \"Fault of this page: \" + fault.message));\n\
+    \t\tif (!page.paused && FEEDS.has(\"decisions\") && !$(\"decisions\").hidden) await readDecisions();\n\
     \t\tawait new Promise(done => setTimeout(done, EVERY));\n\
     \t}\n\
     }\n\
@@ -959,9 +960,9 @@ pub(crate) const TEXT: &str = "<!doctype html>\n\
     const ENDS = { root: \"its root had come\", wait: \"its wait was over\", size: \"it had grown too big\", close: \"the collector was closed\" };\n\
     \n\
     function verdictOf(it) {\n\
-    \tif (it.state === \"unknown\") return [\"This trace isn't known\", \"It never came, or it left so long ago that nothing of it is remembered.\"];\n\
+    \tif (it.state === \"unknown\") return [\"This trace isn't known\", \"Of the decisions told while somebody looked here, none of the last 1,000 is of it. It still waits, was decided while nobody looked, or never came.\"];\n\
     \tif (it.state === \"waiting\") return [\"It still waits\", `${count(it.spans)} spans came in ${lasting(it.waited_ms)}; it is decided in ${lasting(it.due_in_ms)} at the latest${it.root ? \"\" : \", its root hasn't come\"}.`];\n\
-    \tif (it.state === \"evicted\") return [\"Left undecided\", `After ${lasting(it.wait_ms)} there was no room for it: its ${count(it.spans)} spans are lost. Raise num_traces.`];\n\
+    \tif (it.state === \"evicted\") return [\"Left undecided\", `${it.wait_ms === undefined ? \"There\" : `After ${lasting(it.wait_ms)} there`} was no room for it: its ${count(it.spans)} spans are lost. Raise num_traces.`];\n\
     \tconst kept = it.verdict === \"kept\", verdict = kept ? \"Kept\" : \"Not kept\";\n\
     \tif (it.state === \"remembered\") return [verdict, \"Only the verdict is still remembered; what the policies said is gone.\"];\n\
     \tif (it.because === \"too_big\") return [verdict, \"It grew beyond maximum_trace_size_bytes, so no policy was asked.\"];\n\
@@ -970,22 +971,23 @@ pub(crate) const TEXT: &str = "<!doctype html>\n\
     }\n\
     \n\
     function showTrace(it) {\n\
-    \tconst [verdict, reason] = verdictOf(it), parts = [make(\"p\", { class: \"verdict \" + it.verdict }, verdict), make(\"p\", {}, reason)];\n\
+    \tconst [verdict, reason] = verdictOf(it), parts = [make(\"p\", { class: \"verdict \" + (it.verdict || \"\") }, verdict), make(\"p\", {}, reason)];\n\
     \tconst facts = [\n\
     \t\t[\"trace\", it.trace_id, \"id\"], [\"root\", it.root && `${it.root} (${it.service})`], [\"took\", it.took_ms !== undefined && lasting(it.took_ms)],\n\
     \t\t[\"spans\", it.spans && count(it.spans) + (it.late_spans ? ` and ${it.late_spans} later` : \"\")], [\"size\", it.bytes && bytes(it.bytes)],\n\
-    \t\t[\"decided at\", it.verdict && it.decided_ms && clock(it.decided_ms)], [\"waited\", it.ended_wait && `${lasting(it.wait_ms)}, until ${ENDS[it.ended_wait]}`],\n\
+    \t\t[it.verdict ? \"decided at\" : \"left at\", it.decided_ms && clock(it.decided_ms)], [\"waited\", it.ended_wait && `${lasting(it.wait_ms)}, until ${ENDS[it.ended_wait]}`],\n\
     \t];\n\
     \tparts.push(make(\"dl\", { class: \"facts\" }, ...facts.filter(it => it[1]).map(([name, value, cls = \"\"]) => make(\"div\", {}, make(\"dt\", {}, name), make(\"dd\", { class: cls }, value)))));\n\
     \tif (it.answers?.length) {\n\
+    \t\tconst heads = [\"Policy\", \"said\", ...it.answers.some(said => said.saw) ? [\"because\"] : []];\n\
     \t\tconst rows = (answers, depth) => answers.flatMap(said => {\n\
     \t\t\tconst decided = !depth && said.policy === it.policy;\n\
     \t\t\treturn [{ cells: [\n\
     \t\t\t\t{ part: depth, text: said.policy, strong: decided, says: decided ? \"decided\" : \"\" },\n\
     \t\t\t\t{ text: ANSWERS[said.answer] || said.answer, kind: said.answer === \"sample\" ? \"kept\" : said.answer === \"not_asked\" ? \"muted\" : \"plain\", cls: \"\" }, { text: said.saw, cls: \"says\" },\n\
-    \t\t\t] }, ...rows(said.parts || [], depth + 1)];\n\
+    \t\t\t].slice(0, heads.length) }, ...rows(said.parts || [], depth + 1)];\n\
     \t\t});\n\
-    \t\tparts.push(table(make(\"div\", { class: \"scroll\" }), \"What each policy said\", [\"Policy\", \"said\", \"because\"], rows(it.answers, 0)));\n\
+    \t\tparts.push(table(make(\"div\", { class: \"scroll\" }), \"What each policy said\", heads, rows(it.answers, 0)));\n\
     \t}\n\
     \t$(\"found\").replaceChildren(...parts);\n\
     }\n\
@@ -1008,9 +1010,9 @@ pub(crate) const TEXT: &str = "<!doctype html>\n\
     \n\
     async function readDecisions() {\n\
     \ttry {\n\
-    \t\tconst { decisions } = JSON.parse(await get(\"decisions.json?last=100\"));\n\
+    \t\tconst { decisions } = JSON.parse(await get(\"decisions.json\"));\n\
     \t\tpage.decisions = decisions;\n\
-    \t\tsay(\"last-told\", decisions.length ? `as of ${clock(Date.now())}, the newest first` : \"none was decided yet\");\n\
+    \t\tsay(\"last-told\", `${decisions.length ? `as of ${clock(Date.now())}, the newest first` : \"none yet\"}; told while somebody looks here, and for a minute more`);\n\
     \t} catch (fault) {\n\
     \t\tsay(\"last-told\", \"The collector doesn't answer; these are the last that it told.\");\n\
     \t}\n\
@@ -1019,10 +1021,11 @@ pub(crate) const TEXT: &str = "<!doctype html>\n\
     \n\
     function showDecisions() {\n\
     \tconst which = $(\"which\").value, shown = (page.decisions || []).filter(it => !which || it.verdict === which);\n\
-    \ttable($(\"decided\"), \"Last decided traces\", [\"Decided\", \"Trace\", \"Verdict\", \"Decided by\", \"Root\", \"spans\", \"took\", \"waited\"], shown.map(it => ({ cells: [\n\
-    \t\tclock(it.decided_ms), { id: it.trace_id, cls: \"\" }, { text: it.verdict === \"kept\" ? \"kept\" : \"not kept\", kind: it.verdict, cls: \"\" },\n\
-    \t\t{ text: it.policy ?? (it.because === \"too_big\" ? \"its size\" : \"none spoke for it\"), cls: it.policy ? \"\" : \"muted\" },\n\
-    \t\t{ text: it.root || \"hadn't come\", cls: it.root ? \"\" : \"muted\" }, count(it.spans), lasting(it.took_ms), lasting(it.wait_ms),\n\
+    \tconst verdicts = { kept: \"kept\", not_kept: \"not kept\" }, reasons = { too_big: \"its size\", none_agreed: \"none spoke for it\" };\n\
+    \ttable($(\"decided\"), \"Last decided traces\", [\"Decided\", \"Trace\", \"Verdict\", \"Decided by\", \"Until\", \"spans\", \"waited\"], shown.map(it => ({ cells: [\n\
+    \t\tclock(it.decided_ms), { id: it.trace_id, cls: \"\" }, { text: verdicts[it.verdict] || \"left undecided\", kind: it.verdict || \"plain\", cls: \"\" },\n\
+    \t\t{ text: it.policy ?? reasons[it.because] ?? \"no room for it\", cls: it.policy ? \"\" : \"muted\" },\n\
+    \t\t{ text: ENDS[it.ended_wait] || \"\", cls: \"muted\" }, count(it.spans), it.wait_ms === undefined ? \"\" : lasting(it.wait_ms),\n\
     \t] })));\n\
     }\n\
     \n\
@@ -1093,4 +1096,4 @@ pub(crate) const TEXT: &str = "<!doctype html>\n\
 pub(crate) const FIELDS: &str = "Cache-Control: no-store\r\n\
     X-Content-Type-Options: nosniff\r\n\
     Referrer-Policy: no-referrer\r\n\
-    Content-Security-Policy: default-src 'none'; script-src 'sha256-30/CusSJklZJMBVGQj9zSNi/873OCvytEoRw+5dnyW8='; style-src 'sha256-jdDMd9EQgArls3EpZzZK/yxpYatm1eDHUsj6i1fjPc4='; connect-src 'self'; img-src data:; base-uri 'none'; form-action 'none'; frame-ancestors 'none'\r\n";
+    Content-Security-Policy: default-src 'none'; script-src 'sha256-a0zjJZjZ/QPXoHXkFC/7DSB7daEATyTyW6kPd3Q4EZI='; style-src 'sha256-jdDMd9EQgArls3EpZzZK/yxpYatm1eDHUsj6i1fjPc4='; connect-src 'self'; img-src data:; base-uri 'none'; form-action 'none'; frame-ancestors 'none'\r\n";

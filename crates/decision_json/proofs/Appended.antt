@@ -1,0 +1,34 @@
+-- Tokens that are written one after the other. For the contracts of all functions that write.
+use Rattle.std.proofs.Common.{◌≡◌, ◌++◌, ◌∷◌, ℕ, List, [], ap, ◌∙◌, append_assoc, subst}
+use Rattle.std.specs.Prelude.{Result, Ok, Err, codes, decimal}
+use Rattle.json.specs.Token.{Token, begin_object, key, number, string}
+use Rattle.json.specs.Written.{Written, Writes}
+use Rattle.span_ids.specs.Id.{id_text}
+use Rattle.decision_json.specs.Putting.{PutsAll}
+
+-- one token was written
+pub puts-one : {E : Type 0} (result : Result (Unit {0}) E) (old new : Written) (token : Token) → Writes result old new token → PutsAll result old new (token ∷ [])
+puts-one (Ok done) old new token h = record { all = (h.ok, h.room.0) }
+puts-one (Err fault) old new token h = record { all = tt }
+
+-- some were written, and then others
+pub puts-then : {E : Type 0} (result : Result (Unit {0}) E) (old between new : Written) (first second : List Token) → between.tokens ≡ old.tokens ++ first → between.before ≡ old.before
+    → PutsAll result between new second → PutsAll result old new (first ++ second)
+puts-then (Ok done) old between new first second e b h =
+    record { all = (h.all.0 ∙ ap (λ (x : List Token). x ++ second) e ∙ append_assoc old.tokens first second, h.all.1 ∙ b) }
+puts-then (Err fault) old between new first second e b h = record { all = tt }
+
+-- a member whose value is a text, or a number, by another spelling of it; and the begin of a trace, by another one of its id
+pub text-as : (old new : List Token) (name text other : List ℕ) → text ≡ other → new ≡ old ++ key name ∷ string text ∷ [] → new ≡ old ++ key name ∷ string other ∷ []
+text-as old new name text other e h = h ∙ ap (λ (t : List ℕ). old ++ key name ∷ string t ∷ []) e
+
+pub count-as : (old new : List Token) (name : List ℕ) (count other : ℕ) → count ≡ other → new ≡ old ++ key name ∷ number (decimal count) ∷ [] → new ≡ old ++ key name ∷ number (decimal other) ∷ []
+count-as old new name count other e h = h ∙ ap (λ (n : ℕ). old ++ key name ∷ number (decimal n) ∷ []) e
+
+pub trace-as : (old new : List Token) (id other : List ℕ) → id ≡ other → new ≡ old ++ begin_object ∷ key (codes "trace_id") ∷ string (id_text id) ∷ []
+    → new ≡ old ++ begin_object ∷ key (codes "trace_id") ∷ string (id_text other) ∷ []
+trace-as old new id other e h = h ∙ ap (λ (i : List ℕ). old ++ begin_object ∷ key (codes "trace_id") ∷ string (id_text i) ∷ []) e
+
+-- these tokens, by another spelling of them
+pub puts-as : {E : Type 0} (result : Result (Unit {0}) E) (old new : Written) (tokens other : List Token) → tokens ≡ other → PutsAll result old new tokens → PutsAll result old new other
+puts-as {E} result old new tokens other e h = subst (λ (ts : List Token). PutsAll {E = E} result old new ts) e h
