@@ -20,11 +20,11 @@ send_batch_size = 7
 [[policies]]
 name = "errors"
 type = "status_code"
-status_codes = ["ERROR"]
+status_code = { status_codes = ["ERROR"] }
 [[policies]]
 name = "slow"
 type = "latency"
-threshold_ms = 500
+latency = { threshold_ms = 500 }
 """
 NEW = """
 decision_wait_ms = 3000
@@ -32,12 +32,11 @@ num_traces = 40
 [[policies]]
 name = "slow"
 type = "latency"
-threshold_ms = 300
+latency = { threshold_ms = 300 }
 [[policies]]
 name = "shop"
 type = "string_attribute"
-key = "service.name"
-values = ["shop"]
+string_attribute = { key = "service.name", values = ["shop"] }
 """
 SERVICES = ["shop", "cart", "pay \"now\"", "<b>"]
 
@@ -131,7 +130,7 @@ def check_numbers(checks, told, traces, kept):
         checks.same(f"the sum over policies by {side}", whole, told[side]["kept"])
     old, new = set(kept["old"][0]), set(kept["new"][0])
     checks.same("traces", told["traces"], {"both": len(old & new), "only_old": len(old - new), "only_new": len(new - old), "none": len(traces) - len(old | new), "unknown": 0})
-    sample = {it["trace_id"]: it for it in told["sample"]}
+    sample = {it["trace_id"]: it for it in told["differ"]}
     checks.same("how many differ", len(sample), min(100, len(old ^ new)))
     checks.holds("each that differs is kept by one alone", set(sample) <= old ^ new)
     return sample
@@ -195,7 +194,7 @@ def check_program(checks, program, folder):
     again = compare(program, old, new, "--json", script=script)
     checks.same("the same again", again.stdout, run.stdout)
     alone = json.loads(compare(program, old, old, "--json", script=script).stdout)
-    checks.same("a configuration beside itself", (alone["traces"]["only_old"], alone["traces"]["only_new"], alone["sample"]), (0, 0, []))
+    checks.same("a configuration beside itself", (alone["traces"]["only_old"], alone["traces"]["only_new"], alone["differ"]), (0, 0, []))
     page = compare(program, old, new, "--html", script=script).stdout
     (block,) = re.findall(r'<script type="application/json" id="comparison">(.*?)</script>', page, re.S)
     checks.same("the page's numbers", json.loads(block), told)
@@ -204,7 +203,7 @@ def check_program(checks, program, folder):
     for number in told["traces"].values():
         checks.holds(f"the text tells {number}", re.search(rf"\b{number}\b", text.replace(",", "")))
     empty = json.loads(compare(program, old, new, "--json").stdout)
-    checks.same("an empty script", (empty["old"]["kept"], empty["traces"]["none"], empty["sample"]), ({"traces": 0, "spans": 0, "bytes": 0}, 0, []))
+    checks.same("an empty script", (empty["old"]["kept"], empty["traces"]["none"], empty["differ"]), ({"traces": 0, "spans": 0, "bytes": 0}, 0, []))
     check_faults(checks, program, old, new, folder)
 
 

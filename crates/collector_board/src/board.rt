@@ -1,4 +1,5 @@
 //! What all threads of a run have counted, for readers while it runs.
+use crate::cells::{PolicyCells, ShardCells};
 use crate::decision_listeners::DecisionListeners;
 use crate::decision_queue::DecisionQueue;
 use batch_post::AttemptOutcome;
@@ -16,46 +17,6 @@ use thread_watch::{Barrier, ShardLoad, Watcher};
 
 /// The number of counts in a report.
 const PLACES: usize = 9;
-
-/// What a shard told last of what it holds.
-#[derive(Drop)]
-struct ShardCells {
-    queued: AtomicU64,
-    traces: AtomicU64,
-    spans: AtomicU64,
-    waited: AtomicU64,
-}
-
-impl ShardCells {
-    /// It holds nothing.
-    fn new() -> Self {
-        ShardCells {
-            queued: AtomicU64::new(0),
-            traces: AtomicU64::new(0),
-            spans: AtomicU64::new(0),
-            waited: AtomicU64::new(0),
-        }
-    }
-}
-
-/// What a policy decided so far, by its name.
-#[derive(Drop)]
-struct PolicyCells {
-    name: Text,
-    sampled: AtomicU64,
-    not_sampled: AtomicU64,
-}
-
-impl PolicyCells {
-    /// It decided nothing.
-    fn new(name: Text) -> Self {
-        PolicyCells {
-            name,
-            sampled: AtomicU64::new(0),
-            not_sampled: AtomicU64::new(0),
-        }
-    }
-}
 
 /// The nine counts, as they grow. Each addition of a thread is added here when it was made, so a number that is read
 /// never goes down, and is that of the report once all threads have ended. No contract says so: a thread that reads is

@@ -9,6 +9,7 @@
 #![tactic(auto)]
 
 mod board;
+mod cells;
 mod decision_listeners;
 mod decision_queue;
 mod decision_ring;
