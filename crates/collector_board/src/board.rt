@@ -1,5 +1,7 @@
 //! What all threads of a run have counted, for readers while it runs.
+use crate::cells::{PolicyCells, ShardCells};
 use crate::decision_queue::{DecisionQueue, TraceNews};
+use crate::record_queue::RecordQueue;
 use batch_post::AttemptOutcome;
 use decision_line::{DecidedTrace, EvictedTrace, Said};
 use drop_ledger::{Count, Report};
@@ -15,46 +17,6 @@ use thread_watch::{Barrier, ShardLoad, Watcher};
 
 /// The number of counts in a report.
 const PLACES: usize = 9;
-
-/// What a shard told last of what it holds.
-#[derive(Drop)]
-struct ShardCells {
-    queued: AtomicU64,
-    traces: AtomicU64,
-    spans: AtomicU64,
-    waited: AtomicU64,
-}
-
-impl ShardCells {
-    /// It holds nothing.
-    fn new() -> Self {
-        ShardCells {
-            queued: AtomicU64::new(0),
-            traces: AtomicU64::new(0),
-            spans: AtomicU64::new(0),
-            waited: AtomicU64::new(0),
-        }
-    }
-}
-
-/// What a policy decided so far, by its name.
-#[derive(Drop)]
-struct PolicyCells {
-    name: Text,
-    sampled: AtomicU64,
-    not_sampled: AtomicU64,
-}
-
-impl PolicyCells {
-    /// It decided nothing.
-    fn new(name: Text) -> Self {
-        PolicyCells {
-            name,
-            sampled: AtomicU64::new(0),
-            not_sampled: AtomicU64::new(0),
-        }
-    }
-}
 
 /// The nine counts, as they grow. Each addition of a thread is added here when it was made, so a number that is read
 /// never goes down, and is that of the report once all threads have ended. No contract says so: a thread that reads is
@@ -102,6 +64,8 @@ pub struct Board {
     failing_code: AtomicU64,
     /// Where decisions wait until they are written, if they are.
     decisions: Option<DecisionQueue>,
+    /// Where what came waits until it is written, if it is.
+    record: Option<RecordQueue>,
 }
 
 impl Board {
@@ -141,6 +105,7 @@ impl Board {
             failing_since: AtomicU64::new(0),
             failing_code: AtomicU64::new(0),
             decisions: None,
+            record: None,
         })
     }
 
@@ -148,6 +113,17 @@ impl Board {
     pub fn keep_decisions(&mut self, alloc: Global) -> Result<(), AllocError> {
         self.decisions = Some(DecisionQueue::new(alloc)?);
         Ok(())
+    }
+
+    /// From now on what comes to so many lanes is kept until it is taken.
+    pub fn keep_record(&mut self, alloc: Global, lanes: u64) -> Result<(), AllocError> {
+        self.record = Some(RecordQueue::new(alloc, lanes)?);
+        Ok(())
+    }
+
+    /// Where what came waits until it is written, if it is.
+    pub fn record_queue(&self) -> Option<&RecordQueue> {
+        self.record.as_ref()
     }
 
     /// Where decisions wait until they are written, if they are.

@@ -1,10 +1,11 @@
 //! The thread that writes a line for each decided and each evicted trace.
 use crate::charge::Charge;
+use crate::lines_to_write::LinesToWrite;
 use collector_board::{DecisionQueue, TraceNews};
 use decision_line::{put_decided, put_evicted};
 use http_lane::HasStopMark;
 use std::alloc::{AllocError, Global};
-use std::io::{ErrorKind, Write};
+use std::io::Write;
 use std::sync::{Arc, Wait};
 use std::thread::{JoinHandle, Threads};
 use std::time::{Clock, Duration};
@@ -12,12 +13,6 @@ use std::{io, thread};
 
 /// The time between two looks at what waits, in milliseconds.
 const PAUSE: u64 = 100;
-
-/// Once so many bytes of lines are made they are written before further ones are made.
-const MOST_BYTES: usize = 262_144;
-
-/// The most writes in a row.
-const MOST_WRITES: u32 = 1_024;
 
 /// Writes a line for each decided and each evicted trace, until the run is over and none waits. `None`: none is written.
 #[derive(Drop)]
@@ -88,7 +83,7 @@ fn write_until_over<R: Wait + Clock, W: Write>(
     for _ in rt.forever() {
         // Asked before lines are made, so that what was told before the end is written.
         let is_over = charge.over.is_set();
-        let may_wait = lines.fill(rt, queue, names);
+        let may_wait = fill(&mut lines, rt, queue, names);
         let goes_on = lines.write_to(output) && may_wait;
         if is_over && !goes_on {
             // What still can't be written is lost with the end.
@@ -111,75 +106,34 @@ fn lose_all<R: Wait>(rt: &R, queue: &DecisionQueue) {
     }
 }
 
-/// Lines that were made, and how many of their bytes are written.
-#[derive(Drop)]
-struct LinesToWrite {
-    text: Vec<u8>,
-    written: usize,
+/// Makes lines of what waits, until there are enough to be written, and says whether some may wait still.
+fn fill<R: Wait>(
+    lines: &mut LinesToWrite,
+    rt: &R,
+    queue: &DecisionQueue,
+    names: &[String],
+) -> bool {
+    for _ in rt.forever() {
+        if lines.is_full() {
+            return true;
+        }
+        let Some(news) = queue.take(rt) else {
+            return false;
+        };
+        if put(&mut lines.text, &news, names).is_err() {
+            queue.loses(1);
+        }
+    }
+    unreachable!()
 }
 
-impl LinesToWrite {
-    /// No line.
-    fn new(alloc: Global) -> Self {
-        LinesToWrite {
-            text: Vec::new(alloc),
-            written: 0,
+/// Makes the line of a trace. `Err`: there is no memory for it.
+fn put(text: &mut Vec<u8>, news: &TraceNews, names: &[String]) -> Result<(), AllocError> {
+    match news {
+        TraceNews::Decided { trace, said, asked } => {
+            let asked = (*asked).min(said.len());
+            put_decided(text, names, &said[..asked], trace)
         }
-    }
-
-    /// Makes lines of what waits, until there are enough to be written, and says whether some may wait still.
-    fn fill<R: Wait>(&mut self, rt: &R, queue: &DecisionQueue, names: &[String]) -> bool {
-        for _ in rt.forever() {
-            if self.text.len() >= MOST_BYTES {
-                return true;
-            }
-            let Some(news) = queue.take(rt) else {
-                return false;
-            };
-            if self.put(&news, names).is_err() {
-                queue.loses(1);
-            }
-        }
-        unreachable!()
-    }
-
-    /// Makes the line of a trace. `Err`: there is no memory for it.
-    fn put(&mut self, news: &TraceNews, names: &[String]) -> Result<(), AllocError> {
-        match news {
-            TraceNews::Decided { trace, said, asked } => {
-                let asked = (*asked).min(said.len());
-                put_decided(&mut self.text, names, &said[..asked], trace)
-            }
-            TraceNews::Evicted(trace) => put_evicted(&mut self.text, trace),
-        }
-    }
-
-    /// Writes what is made, and says whether the output took all of it: a rest is written later, so that no line is torn.
-    fn write_to<W: Write>(&mut self, output: &mut W) -> bool {
-        for _ in 0..MOST_WRITES {
-            let left = &self.text[self.written.min(self.text.len())..];
-            if left.is_empty() {
-                self.text.clear();
-                self.written = 0;
-                return true;
-            }
-            match output.write(left) {
-                Ok(n) if n > 0 => self.written = self.written.saturating_add(n),
-                Err(error) if error.kind() == ErrorKind::Interrupted => {}
-                _ => return false,
-            }
-        }
-        false
-    }
-
-    /// How many lines aren't written whole.
-    fn left(&self) -> u64 {
-        let mut lines: u64 = 0;
-        for byte in &self.text[self.written.min(self.text.len())..] {
-            if *byte == b'\n' {
-                lines = lines.saturating_add(1);
-            }
-        }
-        lines
+        TraceNews::Evicted(trace) => put_evicted(text, trace),
     }
 }

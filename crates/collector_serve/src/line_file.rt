@@ -1,20 +1,12 @@
 //! The file of lines that a thread of their own writes.
 use crate::charge::Charge;
+use crate::lines_of::LinesOf;
 use output_file::{FileTurn, FilesPlace, OpenedFile, OutputPlace, turn_of};
 use std::alloc::Global;
 use std::io;
 use std::io::Write;
 use std::rt::Files;
 use std::sync::Arc;
-
-/// Of what such lines are.
-#[derive(Clone, Copy)]
-pub enum LinesOf {
-    /// A line for each decided and each evicted trace (`decisions`).
-    Decisions,
-    /// A line for each request that was taken and each tick (`record`).
-    Record,
-}
 
 /// A writer over the files of such lines, one after the other. It turns to a new file as an `OutputFile` does, by the same
 /// rule; it has what it needs of the system by value, so that a thread can have it.
