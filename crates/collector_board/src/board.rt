@@ -2,6 +2,7 @@
 use crate::cells::{PolicyCells, ShardCells};
 use crate::decision_listeners::DecisionListeners;
 use crate::decision_queue::DecisionQueue;
+use crate::record_queue::RecordQueue;
 use batch_post::AttemptOutcome;
 use decision_line::{DecidedTrace, EvictedTrace, LateSpans, Said};
 use drop_ledger::{Count, Report};
@@ -64,6 +65,8 @@ pub struct Board {
     failing_code: AtomicU64,
     /// To whom decisions are told.
     listeners: DecisionListeners,
+    /// Where what came waits until it is written, if it is.
+    record: Option<RecordQueue>,
 }
 
 impl Board {
@@ -102,12 +105,24 @@ impl Board {
             failing_since: AtomicU64::new(0),
             failing_code: AtomicU64::new(0),
             listeners: DecisionListeners::new(alloc, policies)?,
+            record: None,
         })
     }
 
     /// From now on decisions are kept until they are taken.
     pub fn keep_decisions(&mut self, alloc: Global) -> Result<(), AllocError> {
         self.listeners.keep(alloc)
+    }
+
+    /// From now on what comes to so many lanes is kept until it is taken.
+    pub fn keep_record(&mut self, alloc: Global, lanes: u64) -> Result<(), AllocError> {
+        self.record = Some(RecordQueue::new(alloc, lanes)?);
+        Ok(())
+    }
+
+    /// Where what came waits until it is written, if it is.
+    pub fn record_queue(&self) -> Option<&RecordQueue> {
+        self.record.as_ref()
     }
 
     /// Where decisions wait until they are written, if they are.

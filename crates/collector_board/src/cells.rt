@@ -1,4 +1,4 @@
-//! What shards and policies tell of themselves, to be read at any time.
+//! What is told of a shard and of a policy while a run goes on.
 use otlp_types::Text;
 use std::sync::atomic::AtomicU64;
 

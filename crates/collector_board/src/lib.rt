@@ -1,5 +1,5 @@
 //! What the threads of a collector that runs tell one another: the board of its counts, the mark to stop and who set it,
-//! for how long a write has been under way, and what became of which trace; and what writes there beside its work: the output, and what sends batches.
+//! for how long a write has been under way, what became of which trace, and what came; and what writes there beside its work: the output, and what sends batches.
 //!
 //! ```
 //! let board = Board::new(alloc, config.shards, &config.policies)?;
@@ -15,6 +15,7 @@ mod decision_queue;
 mod decision_ring;
 mod export_watch;
 mod output_stall;
+mod record_queue;
 mod stop_mark;
 mod stopping_sink;
 mod watched_destination;
@@ -26,6 +27,7 @@ pub use decision_queue::{DecisionQueue, LineNews};
 pub use decision_ring::{DecisionRing, REMEMBERED};
 pub use export_watch::ExportWatch;
 pub use output_stall::OutputStall;
+pub use record_queue::{Came, RecordQueue, TakenRequest};
 pub use stop_mark::{Closer, StopMark};
 pub use stopping_sink::StoppingSink;
 pub use watched_destination::WatchedDestination;

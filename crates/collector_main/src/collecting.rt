@@ -8,6 +8,7 @@ ghost use Rattle.collector_main.specs.Serving.{Serves, RunsTo, FilesTo, writes_f
 use crate::deciding::opened_decisions;
 use crate::logging::{say_end, say_fault, say_lost, say_no_memory, say_refused, say_start};
 use crate::opening::{charge_of, copy_of, opened, watches};
+use crate::recording::opened_record;
 use crate::running::serve_with;
 use collector_board::WriteWatch;
 use collector_commands::{FileFault, Outcome, Surroundings, config_of};
@@ -90,6 +91,9 @@ where
     let Ok(decisions) = opened_decisions(rt, alloc, &config, &charge, &mut events) else {
         return (writer, Outcome::CannotWrite);
     };
+    let Ok(record) = opened_record(rt, alloc, &config, &charge, &mut events) else {
+        return (writer, Outcome::CannotWrite);
+    };
     let Ok((listener, door)) = opened(rt, alloc, &config, &charge, around.input, &mut events) else {
         return (writer, Outcome::CannotListen);
     };
@@ -98,6 +102,7 @@ where
     door.end(rt, &charge);
     drop(listener);
     decisions.end(rt);
+    record.end(rt);
     say_lost(rt, alloc, &mut events, &charge);
     // Once the run has ended, and before the report is printed (D-194).
     charge.removes_sockets(rt);

@@ -1,6 +1,6 @@
 //! Where the lines of decisions go.
 use crate::logging::say_fault;
-use collector_serve::{Charge, DecisionFile, DecisionWriter, EventWriter};
+use collector_serve::{Charge, DecisionWriter, EventWriter, LineFile, LinesOf};
 use pipeline::Machine;
 use std::alloc::{AllocError, Global};
 use std::fs::File;
@@ -53,7 +53,8 @@ where
     // As many as of the output.
     let keep = u32::try_from(config.output_keep).unwrap_or(u32::MAX);
     let longest = config.decisions_max_mib.saturating_mul(MEBIBYTE);
-    let file = DecisionFile::open(rt, alloc, path, keep, longest, Arc::try_clone(charge)?)?;
+    let shared = Arc::try_clone(charge)?;
+    let file = LineFile::open(rt, alloc, path, keep, longest, shared, LinesOf::Decisions)?;
     let names = names_of(alloc, config)?;
     DecisionWriter::start(rt, alloc, file, names, Arc::try_clone(charge)?)
 }

@@ -1,5 +1,6 @@
 //! What the program says of a run on standard error.
 use crate::changed_settings::changed_settings;
+use collector_board::{DecisionQueue, RecordQueue};
 use collector_commands::{Outcome, VERSION};
 use collector_serve::{Charge, EventWriter};
 use drop_ledger::{Count, Report};
@@ -163,20 +164,22 @@ pub fn say_end<W: Write + Drop, R: Clock>(
     }
 }
 
-/// Says how many lines of decisions are never written, where some aren't.
+/// Says how many lines of decisions and of the record are never written, where some aren't.
 pub fn say_lost<W: Write + Drop, R: Clock>(
     rt: &R,
     alloc: Global,
     events: &mut EventWriter<W>,
     charge: &Charge,
 ) {
-    let Some(queue) = charge.board.decision_queue() else {
-        return;
-    };
-    let lost = queue.lost();
-    if lost > 0 {
-        let fields = [number("lines", lost)];
+    let decisions = charge.board.decision_queue().map_or(0, DecisionQueue::lost);
+    if decisions > 0 {
+        let fields = [number("lines", decisions)];
         events.say(rt, alloc, Level::Error, "decisions_not_written", &fields);
+    }
+    let record = charge.board.record_queue().map_or(0, RecordQueue::lost);
+    if record > 0 {
+        let fields = [number("lines", record)];
+        events.say(rt, alloc, Level::Error, "record_not_written", &fields);
     }
 }
 

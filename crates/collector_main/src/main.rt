@@ -13,6 +13,7 @@ mod deciding;
 mod logging;
 mod opening;
 mod program;
+mod recording;
 mod running;
 mod sending;
 

@@ -55,6 +55,9 @@ pub fn charge_of(
     if !config.decisions.as_str().is_empty() {
         board.keep_decisions(alloc)?;
     }
+    if !config.request_record.as_str().is_empty() {
+        board.keep_record(alloc, u64::from(config.lanes))?;
+    }
     let charge = Charge {
         configuration: settings_in_force(alloc, text?.as_str())?,
         stop: StopMark::new(),
@@ -64,6 +67,7 @@ pub fn charge_of(
         admin: config.admin.try_clone(alloc)?,
         reopen: ReopenMark::new(),
         reopen_decisions: ReopenMark::new(),
+        reopen_record: ReopenMark::new(),
         output: config.output.try_clone(alloc)?,
         metrics_address: config.metrics.try_clone(alloc)?,
         stall: OutputStall::new(),

@@ -3,6 +3,7 @@ ghost use Rattle.std.specs.Prelude.{◌≡◌, IfSome};
 
 use crate::admin_door::end_admin;
 use crate::history::History;
+use crate::lines_of::LinesOf;
 use crate::wall_clock::WallClock;
 use admin_http::Admin;
 use collector_board::{Board, Closer, OutputStall, REMEMBERED, StopMark};
@@ -45,6 +46,8 @@ pub struct Charge {
     pub reopen: ReopenMark,
     /// What asks for the decisions' file to be opened anew.
     pub reopen_decisions: ReopenMark,
+    /// What asks for the record's file to be opened anew.
+    pub reopen_record: ReopenMark,
     /// The path of the output's file, or nothing.
     pub output: Text,
     /// The address at which numbers alone are told, or nothing.
@@ -58,6 +61,14 @@ pub struct Charge {
 }
 
 impl Charge {
+    /// What asks for the file of such lines to be opened anew.
+    pub fn reopen_of(&self, lines: LinesOf) -> &ReopenMark {
+        match lines {
+            LinesOf::Decisions => &self.reopen_decisions,
+            LinesOf::Record => &self.reopen_record,
+        }
+    }
+
     /// Removes the sockets' files of its addresses, where these are some.
     pub fn removes_sockets<R: Files>(&self, rt: &R) {
         end_admin(rt, self.admin.as_str());
@@ -168,6 +179,7 @@ impl<'c, R: Clock + Wait> Admin for InCharge<'c, R> {
     fn reopen(&mut self) {
         self.charge.reopen.ask();
         self.charge.reopen_decisions.ask();
+        self.charge.reopen_record.ask();
         self.is_reopened = true;
     }
 

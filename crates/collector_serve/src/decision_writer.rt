@@ -1,12 +1,13 @@
 //! The thread that writes a line for each decided and each evicted trace.
 use crate::charge::Charge;
 use crate::late_run::LateRun;
+use crate::lines_to_write::LinesToWrite;
 use collector_board::{DecisionQueue, LineNews};
 use decision_json::TraceNews;
 use decision_line::{LateSpans, put_decided, put_evicted, put_late};
 use http_lane::HasStopMark;
 use std::alloc::Global;
-use std::io::{ErrorKind, Write};
+use std::io::Write;
 use std::sync::{Arc, Wait};
 use std::thread::{JoinHandle, Threads};
 use std::time::{Clock, Duration};
@@ -15,13 +16,8 @@ use std::{io, thread};
 /// The time between two looks at what waits, in milliseconds.
 const PAUSE: u64 = 100;
 
-/// Once so many bytes of lines are made they are written before further ones are made.
-const MOST_BYTES: usize = 262_144;
-
-/// The most writes in a row.
-const MOST_WRITES: u32 = 1_024;
-
-/// Writes a line for each decided and each evicted trace, and for late spans, until the run is over and none waits. `None`: none is written.
+/// Writes a line for each decided and each evicted trace, and for late spans, until the run is over and none waits.
+/// `None`: none is written.
 #[derive(Drop)]
 pub struct DecisionWriter {
     thread: Option<JoinHandle<()>>,
@@ -87,10 +83,11 @@ fn write_until_over<R: Wait + Clock, W: Write>(
     output: &mut W,
 ) {
     let mut lines = LinesToWrite::new(alloc);
+    let mut late = LateRun::none();
     for _ in rt.forever() {
         // Asked before lines are made, so that what was told before the end is written.
         let is_over = charge.over.is_set();
-        let may_wait = lines.fill(rt, queue, names);
+        let may_wait = fill(&mut lines, &mut late, rt, queue, names);
         let goes_on = lines.write_to(output) && may_wait;
         if is_over && !goes_on {
             // What still can't be written is lost with the end.
@@ -113,109 +110,73 @@ fn lose_all<R: Wait>(rt: &R, queue: &DecisionQueue) {
     }
 }
 
-/// Lines that were made, how many of their bytes are written, and late spans that have no line yet.
-#[derive(Drop)]
-struct LinesToWrite {
-    text: Vec<u8>,
-    written: usize,
-    late: LateRun,
+/// Makes lines of what waits, until there are enough to be written, and says whether some may wait still.
+fn fill<R: Wait>(
+    lines: &mut LinesToWrite,
+    late: &mut LateRun,
+    rt: &R,
+    queue: &DecisionQueue,
+    names: &[String],
+) -> bool {
+    for _ in rt.forever() {
+        if lines.is_full() {
+            return true;
+        }
+        let Some(news) = queue.take(rt) else {
+            put_run(&mut lines.text, late, queue);
+            return false;
+        };
+        put(&mut lines.text, late, queue, &news, names);
+    }
+    unreachable!()
 }
 
-impl LinesToWrite {
-    /// No line.
-    fn new(alloc: Global) -> Self {
-        LinesToWrite {
-            text: Vec::new(alloc),
-            written: 0,
-            late: LateRun::none(),
+/// Makes the line of what was told. A late span has none of its own: it is counted with those of its trace that came
+/// right before it.
+fn put(
+    text: &mut Vec<u8>,
+    late: &mut LateRun,
+    queue: &DecisionQueue,
+    news: &LineNews,
+    names: &[String],
+) {
+    match news {
+        LineNews::Trace(trace) => {
+            put_run(text, late, queue);
+            put_trace(text, queue, trace, names);
         }
-    }
-
-    /// Makes lines of what waits, until there are enough to be written, and says whether some may wait still.
-    fn fill<R: Wait>(&mut self, rt: &R, queue: &DecisionQueue, names: &[String]) -> bool {
-        for _ in rt.forever() {
-            if self.text.len() >= MOST_BYTES {
-                return true;
-            }
-            let Some(news) = queue.take(rt) else {
-                self.put_run(queue);
-                return false;
-            };
-            self.put(queue, &news, names);
-        }
-        unreachable!()
-    }
-
-    /// Makes the line of what was told. A late span has none of its own: it is counted with those of its trace that came
-    /// right before it.
-    fn put(&mut self, queue: &DecisionQueue, news: &LineNews, names: &[String]) {
-        match news {
-            LineNews::Trace(trace) => {
-                self.put_run(queue);
-                self.put_trace(queue, trace, names);
-            }
-            LineNews::Late(late) => {
-                if let Some(before) = self.late.with(*late) {
-                    self.put_late(queue, &before);
-                }
+        LineNews::Late(spans) => {
+            if let Some(before) = late.with(*spans) {
+                put_spans(text, queue, &before);
             }
         }
     }
+}
 
-    /// Makes the line of a trace.
-    fn put_trace(&mut self, queue: &DecisionQueue, trace: &TraceNews, names: &[String]) {
-        let put = match trace {
-            TraceNews::Decided { trace, said, asked } => {
-                let asked = (*asked).min(said.len());
-                put_decided(&mut self.text, names, &said[..asked], trace)
-            }
-            TraceNews::Evicted(trace) => put_evicted(&mut self.text, trace),
-        };
-        if put.is_err() {
-            queue.loses(1);
+/// Makes the line of a trace, and counts it as lost where there is no memory for it.
+fn put_trace(text: &mut Vec<u8>, queue: &DecisionQueue, trace: &TraceNews, names: &[String]) {
+    let put = match trace {
+        TraceNews::Decided { trace, said, asked } => {
+            let asked = (*asked).min(said.len());
+            put_decided(text, names, &said[..asked], trace)
         }
+        TraceNews::Evicted(trace) => put_evicted(text, trace),
+    };
+    if put.is_err() {
+        queue.loses(1);
     }
+}
 
-    /// Makes the line of late spans.
-    fn put_late(&mut self, queue: &DecisionQueue, late: &LateSpans) {
-        if put_late(&mut self.text, late).is_err() {
-            queue.loses(1);
-        }
+/// Makes the line of late spans, and counts it as lost where there is no memory for it.
+fn put_spans(text: &mut Vec<u8>, queue: &DecisionQueue, late: &LateSpans) {
+    if put_late(text, late).is_err() {
+        queue.loses(1);
     }
+}
 
-    /// Makes the line of late spans that have none, if there are some.
-    fn put_run(&mut self, queue: &DecisionQueue) {
-        if let Some(late) = self.late.end() {
-            self.put_late(queue, &late);
-        }
-    }
-
-    /// Writes what is made, and says whether the output took all of it: a rest is written later, so that no line is torn.
-    fn write_to<W: Write>(&mut self, output: &mut W) -> bool {
-        for _ in 0..MOST_WRITES {
-            let left = &self.text[self.written.min(self.text.len())..];
-            if left.is_empty() {
-                self.text.clear();
-                self.written = 0;
-                return true;
-            }
-            match output.write(left) {
-                Ok(n) if n > 0 => self.written = self.written.saturating_add(n),
-                Err(error) if error.kind() == ErrorKind::Interrupted => {}
-                _ => return false,
-            }
-        }
-        false
-    }
-
-    /// How many lines aren't written whole.
-    fn left(&self) -> u64 {
-        let mut lines: u64 = 0;
-        for byte in &self.text[self.written.min(self.text.len())..] {
-            if *byte == b'\n' {
-                lines = lines.saturating_add(1);
-            }
-        }
-        lines
+/// Makes the line of the late spans that have none, if there are some.
+fn put_run(text: &mut Vec<u8>, late: &mut LateRun, queue: &DecisionQueue) {
+    if let Some(spans) = late.end() {
+        put_spans(text, queue, &spans);
     }
 }

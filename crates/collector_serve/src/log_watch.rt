@@ -3,7 +3,7 @@ use crate::charge::Charge;
 use crate::event_writer::EventWriter;
 use crate::steady_clock::SteadyClock;
 use crate::wall_clock::WallClock;
-use collector_board::{Closer, DecisionQueue};
+use collector_board::{Closer, DecisionQueue, RecordQueue};
 use drop_ledger::Count;
 use event_log::{
     AwayTurn, FieldValue, Level, LogField, Spell, SpellTurn, away_after, jump_of, spell_after,
@@ -21,7 +21,7 @@ use std::{io, thread};
 const PAUSE: u64 = 500;
 
 /// What may begin and be over again: what is said at its beginning, at its end, and of what it tells the number.
-const COMINGS: [(&str, &str, &str); 8] = [
+const COMINGS: [(&str, &str, &str); 9] = [
     ("queue_full", "queue_has_room", "spans"),
     ("memory_refused", "memory_given", "spans"),
     ("traces_evicted", "no_trace_evicted", "spans"),
@@ -30,13 +30,14 @@ const COMINGS: [(&str, &str, &str); 8] = [
     ("files_run_out", "files_suffice", "times"),
     ("spans_given_up", "no_span_given_up", "spans"),
     ("decisions_lost", "no_decision_lost", "lines"),
+    ("record_lost", "no_record_lost", "lines"),
 ];
 
 /// What was known at the last look.
 #[derive(Clone, Copy)]
 struct Known {
-    numbers: [u64; 8],
-    spells: [Spell; 8],
+    numbers: [u64; 9],
+    spells: [Spell; 9],
     taken: u64,
     unanswered: u64,
     away_since: Option<u64>,
@@ -50,8 +51,8 @@ impl Known {
     /// Nothing has happened.
     fn new() -> Self {
         Known {
-            numbers: [0; 8],
-            spells: [Spell::new(); 8],
+            numbers: [0; 9],
+            spells: [Spell::new(); 9],
             taken: 0,
             unanswered: 0,
             away_since: None,
@@ -147,9 +148,9 @@ fn number(name: &'static str, number: u64) -> LogField<'static> {
 }
 
 /// The numbers that are looked at: spans that found a queue full, spans without memory, spans of evicted traces, answers
-/// 503, connections that were closed as the idlest, how often files had run out, spans that were given up, and lines of
-/// decisions that were lost.
-fn numbers_of(charge: &Charge) -> [u64; 8] {
+/// 503, connections that were closed as the idlest, how often files had run out, spans that were given up, lines of
+/// decisions and lines of the record that were lost.
+fn numbers_of(charge: &Charge) -> [u64; 9] {
     let report = charge.board.report();
     let traffic = &charge.loads.traffic;
     [
@@ -161,6 +162,7 @@ fn numbers_of(charge: &Charge) -> [u64; 8] {
         traffic.lacked_file(),
         report.number(Count::Dropped(Reason::ExporterDown)),
         charge.board.decision_queue().map_or(0, DecisionQueue::lost),
+        charge.board.record_queue().map_or(0, RecordQueue::lost),
     ]
 }
 
@@ -175,7 +177,7 @@ fn look_at_numbers<W: Write + Drop, R: Clock>(
 ) {
     // What began and was over between two looks is told by the numbers alone (D-185).
     let numbers = numbers_of(charge);
-    for at in 0..8 {
+    for at in 0..9 {
         let grows = known.numbers[at] < numbers[at];
         known.numbers[at] = numbers[at];
         let (spell, turn) = spell_after(known.spells[at], grows, now);

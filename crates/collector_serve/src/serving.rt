@@ -101,7 +101,9 @@ pub fn serve_on<
     ensures begun { is_none result.2 ≡ has_begun result.1 }
     ensures back { IfSome result.2 (λ back. back.items ≡ drivers.items) }
 {
-    let ticks = Ticker::new(config.tick, context.clock, context.stop);
+    let ticks = Ticker::new(config.tick, context.clock, context.stop).recording(
+        context.observer.record_queue(),
+    );
     let (destination, answer, back) = run_by_turns_to(context, config, drivers, ticks, destination);
     let back = match back {
         Some((drivers, _)) => Some(drivers),

@@ -4,7 +4,12 @@ ghost use Rattle.std.specs.Duration.{as_nanos};
 ghost use Rattle.collector_serve.specs.Moments.{moment_after};
 
 use crate::wall_clock::WallClock;
+use collector_board::RecordQueue;
 use http_lane::Clock as Moments;
+use otlp_encoding::Encoding;
+use script_line::connection_number;
+use span_ids::ConnKey;
+use std::sync::Wait;
 use std::time::{Clock, Duration, Instant};
 
 /// The wall clock as it was at the start, and from then on the time that has passed, whatever becomes of the wall clock
@@ -14,6 +19,8 @@ pub struct SteadyClock<'r, R: Clock> {
     rt: &'r R,
     start: u64,
     began: Option<Instant>,
+    /// Where requests that were taken wait until they are written, if they are.
+    record: Option<&'r RecordQueue>,
 }
 
 impl<'r, R: Clock> SteadyClock<'r, R> {
@@ -23,11 +30,22 @@ impl<'r, R: Clock> SteadyClock<'r, R> {
             rt,
             start: WallClock::new(rt).now(),
             began: Instant::now(rt).ok(),
+            record: None,
+        }
+    }
+
+    /// The clock that hands on requests that were taken, so that they are written.
+    pub fn recording(self, record: Option<&'r RecordQueue>) -> Self {
+        SteadyClock {
+            rt: self.rt,
+            start: self.start,
+            began: self.began,
+            record,
         }
     }
 }
 
-impl<'r, R: Clock> Moments for SteadyClock<'r, R> {
+impl<'r, R: Clock + Wait> Moments for SteadyClock<'r, R> {
     fn now(&self) -> u64 {
         let Some(began) = self.began else {
             return WallClock::new(self.rt).now();
@@ -36,6 +54,16 @@ impl<'r, R: Clock> Moments for SteadyClock<'r, R> {
         match began.elapsed(self.rt) {
             Ok(passed) => moment_after(self.start, passed),
             Err(_) => self.start,
+        }
+    }
+
+    fn took(&self, connection: ConnKey, moment: u64, encoding: Encoding, text: &[u8]) {
+        let Some(record) = self.record else {
+            return;
+        };
+        match connection_number(connection, record.lanes()) {
+            Some(number) => record.put_request(self.rt, number, moment, encoding, text),
+            None => record.loses(1),
         }
     }
 }

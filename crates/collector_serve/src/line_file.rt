@@ -1,5 +1,6 @@
-//! The file of the lines of decisions.
+//! The file of lines that a thread of their own writes.
 use crate::charge::Charge;
+use crate::lines_of::LinesOf;
 use output_file::{FileTurn, FilesPlace, OpenedFile, OutputPlace, turn_of};
 use std::alloc::Global;
 use std::io;
@@ -7,10 +8,10 @@ use std::io::Write;
 use std::rt::Files;
 use std::sync::Arc;
 
-/// A writer over the files of the lines of decisions, one after the other. It turns to a new file as an `OutputFile` does,
-/// by the same rule; it has what it needs of the system by value, so that a thread can have it.
+/// A writer over the files of such lines, one after the other. It turns to a new file as an `OutputFile` does, by the same
+/// rule; it has what it needs of the system by value, so that a thread can have it.
 #[derive(Drop)]
-pub struct DecisionFile<R: Files> {
+pub struct LineFile<R: Files> {
     rt: R,
     alloc: Global,
     path: String,
@@ -22,11 +23,12 @@ pub struct DecisionFile<R: Files> {
     size: u64,
     at_line_end: bool,
     charge: Arc<Charge, Global>,
+    lines: LinesOf,
     /// How often a new file had been asked for when one was opened last.
     seen: u64,
 }
 
-impl<R: Files + Copy> DecisionFile<R> {
+impl<R: Files + Copy> LineFile<R> {
     /// The file at this path. An error: it can't be opened.
     pub fn open(
         rt: &R,
@@ -35,10 +37,11 @@ impl<R: Files + Copy> DecisionFile<R> {
         keep: u32,
         longest: u64,
         charge: Arc<Charge, Global>,
+        lines: LinesOf,
     ) -> io::Result<Self> {
-        let seen = charge.reopen_decisions.count();
+        let seen = charge.reopen_of(lines).count();
         let opened = opened_at(rt, alloc, path.as_str(), keep)?;
-        Ok(DecisionFile {
+        Ok(LineFile {
             rt: *rt,
             alloc,
             path,
@@ -48,13 +51,14 @@ impl<R: Files + Copy> DecisionFile<R> {
             size: opened.size,
             at_line_end: true,
             charge,
+            lines,
             seen,
         })
     }
 
     /// Turns to a new file, where that is to be. Where nothing can be renamed or opened it goes on in the one that is open.
     fn turn(&mut self) {
-        let asked = self.charge.reopen_decisions.count();
+        let asked = self.charge.reopen_of(self.lines).count();
         match turn_of(
             self.size,
             self.longest,
@@ -101,7 +105,7 @@ fn opened_at<R: Files>(
     FilesPlace::new(rt, alloc, path, keep).open()
 }
 
-impl<R: Files + Copy> Write for DecisionFile<R> {
+impl<R: Files + Copy> Write for LineFile<R> {
     fn write(&mut self, bytes: &[u8]) -> io::Result<usize> {
         self.turn();
         let count = self.file.write(bytes)?;
