@@ -17,4 +17,4 @@ pub mod Finish
 pub mod Leading
 pub mod CalmReplays
 pub mod From
-pub mod Comparing
+pub mod SideBySide

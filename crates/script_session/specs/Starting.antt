@@ -5,7 +5,8 @@ use Rattle.shard_core.specs.Held.{Held, settings}
 use Rattle.script_session.specs.Pulling.{Export, HaveSettings, IsQuiet, AreQuiet, HasReleasedAll, HaveReleased, ends_of}
 use Rattle.config_shards.specs.Shards.{settings_by}
 use Rattle.policy_tree.specs.Meaning.{meaning}
-use Rattle.rate_budget.specs.Budget.{LimiterCount, limiter_counts}
+use Rattle.rate_budget.specs.Budget.{limiter_counts}
+use Rattle.rate_budget.specs.declared.count.LimiterCount.{LimiterCount}
 use Rattle.span_sink.specs.LineSinks.{up_state}
 use Rattle.script_run.specs.Connections.{Contacts}
 

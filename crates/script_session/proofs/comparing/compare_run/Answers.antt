@@ -2,7 +2,7 @@
 -- For the contract of `compare_run`.
 use Rattle.std.proofs.Common.{ap}
 use Rattle.span_sink.specs.LineSinks.{LineSinkState}
-use Rattle.script_session.proofs.Comparing.{can-play}
+use Rattle.script_session.proofs.SideBySide.{can-play}
 use Rattle.script_session.proofs.comparing.compare_run.Goals as goal
 
 pub run_both-requires : goal.run_both-requires

@@ -6,7 +6,7 @@ use Rattle.config_shards.specs.Shards.{settings_by}
 use Rattle.script_run.specs.Laws.{CanPlay}
 use Rattle.script_run.specs.World.{Sizes}
 use Rattle.script_session.specs.Replay.{RunEnds}
-use Rattle.script_session.proofs.Comparing.{can-play, same-sizes}
+use Rattle.script_session.proofs.SideBySide.{can-play, same-sizes}
 use Rattle.script_session.proofs.replay.replay_run.Goals as goal
 
 pub run_session-requires : goal.run_session-requires

@@ -2,6 +2,7 @@ use Rattle.std.proofs.Common.{ℕ, Bool, [], ◌∷◌, List, Option, refl, sym,
 use Rattle.std.specs.Prelude.{not}
 use Rattle.span_sink.specs.LineSinks.{LineSinkState, up_state}
 use Rattle.tsc_script.specs.Instructions.{close}
+use Rattle.script_session.specs.declared.listening.Unheard.{Unheard}
 use Rattle.script_session.specs.declared.session.Session.{Session}
 use Rattle.script_run.specs.World.{new_world, PlaysAll}
 use Rattle.script_run.specs.Counts.{Reports}
@@ -26,8 +27,8 @@ returns g c = λ config can unused new limiter.
       shards = config.shards;
       taken = session.output.0.sink.taken;
       failures = session.output.0.sink.failures;
-      taken_after = g.S.Sink.taken c.end.result.0;
-      failures_after = g.S.Sink.failures c.end.result.0;
+      taken_after = g.S.Sink.taken c.end-sink.result.0;
+      failures_after = g.S.Sink.failures c.end-sink.result.0;
       unread = g.R.ScriptSource.given c.args.reader.now;
       unread_after = g.R.ScriptSource.given c.play_script-played.new.reader;
     } in
@@ -45,9 +46,9 @@ returns g c = λ config can unused new limiter.
     } in
     run-ends run c.play_script-played.result (not now.output.0.sink.is_down) now.closed now.output.0.sink now.output.1 _ _ script.whole script.stopped script.refused script.caused script.up script.closed script.down_closed
     (λ e. let same = (script.no_memory e).0 in
-    (c.end.ensures.taken ∙ ap (λ (m : Session g.row.S.Denot g.S.Sink). m.output.0.sink.taken) same, c.end.ensures.failures ∙ ap (λ (m : Session g.row.S.Denot g.S.Sink). m.output.0.sink.failures) same, ap g.R.ScriptSource.given (script.no_memory e).1))
-    (is_up_state now.output.0.sink run.taken_after run.failures_after c.end.ensures.taken c.end.ensures.failures)
-    (is_down_state now.output.0.sink run.taken_after run.failures_after c.end.ensures.taken c.end.ensures.failures)
+    (c.end-sink.ensures.taken ∙ ap (λ (m : Session g.row.S.Denot Unheard g.S.Sink). m.output.0.sink.taken) same, c.end-sink.ensures.failures ∙ ap (λ (m : Session g.row.S.Denot Unheard g.S.Sink). m.output.0.sink.failures) same, ap g.R.ScriptSource.given (script.no_memory e).1))
+    (is_up_state now.output.0.sink run.taken_after run.failures_after c.end-sink.ensures.taken c.end-sink.ensures.failures)
+    (is_down_state now.output.0.sink run.taken_after run.failures_after c.end-sink.ensures.taken c.end-sink.ensures.failures)
     (λ done leads. let r = leads.3 s start starts in leads_to s run.sizes run.lanes run.shards first done now.output.0.sink now.output.1 can refl r.0 r.1 (sym r.2.sink_is) r.2.reports now.closed (sym r.2.closed_is))
     (λ done fell.
     let r = fell.1.3 s start starts in
@@ -57,4 +58,4 @@ returns g c = λ config can unused new limiter.
     let K = λ (b : Bool). PlaysAll s (record { batch = session.output.0.size; queue = session.queue_capacity; keeps_doubles = b }) r.0 (close ∷ []) ends.0 in
     let closes : PlaysAll s run.sizes r.0 (close ∷ []) ends.0 = subst K fell.1.2 (subst Q fell.1.1 (subst B fell.1.0 ends.1)) in
     fell_before run done now.output.0.sink now.output.1 can r.0 r.1 (sym (ap (λ (k : LineSinkState). k.is_down) r.2.sink_is) ∙ not-false fell.0.output.0.sink.is_down fell.2) ends.0 closes (sym ends.2.sink_is) ends.2.reports)
-    c.end.result.1 c.end.ensures.answer
+    c.end-sink.result.1 c.end-sink.ensures.answer

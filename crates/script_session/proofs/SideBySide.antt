@@ -3,7 +3,7 @@
 use Rattle.std.proofs.Common.{◌≡◌, ℕ, Bool, true, false, List, [], ◌∷◌, Option, Some, None, refl, sym, ap, subst, ◌∙◌, replicate, rules}
 use Rattle.std.specs.Prelude.{not}
 use Rattle.drop_ledger.specs.declared.report.Report.{Report}
-use Rattle.rate_budget.specs.Budget.{LimiterCount}
+use Rattle.rate_budget.specs.declared.count.LimiterCount.{LimiterCount}
 use Rattle.journal_theory.specs.Journal.{Settings}
 use Rattle.shard_core.specs.Held.{Held}
 use Rattle.span_sink.specs.LineSinks.{LineSinkState, up_state}
