@@ -19,12 +19,12 @@ steps_between from moment width = moment / width - from / width
 
 -- the least of a width and so many of its doublings by which two moments are fewer than the most steps apart, or else
 -- the last of them
-abbrev pub least_doubling : (doublings : ℕ) → (from to width : ℕ) → ℕ
+unfoldable pub least_doubling : (doublings : ℕ) → (from to width : ℕ) → ℕ
 least_doubling zero from to width = width
 least_doubling (suc n) from to width = if nat_lt (steps_between from to width) MOST_STEPS then width else least_doubling n from to (capped (width * 2))
 
 -- the width of steps from one moment to another
-unfoldable pub width_for : (from to : ℕ) → ℕ
+abbrev pub width_for : (from to : ℕ) → ℕ
 width_for from to = least_doubling DOUBLINGS from to LEAST_STEP
 
 -- no span in any step
@@ -50,7 +50,7 @@ covering t from to =
     let earliest = min t.from from in
     let latest = max t.to to in
     let wider = width_for earliest latest in
-    record { any = true; from = earliest; to = latest; width = wider; counts = regridded t.counts (t.from / t.width) t.width earliest wider no_counts }
+    record { any = true; from = earliest; to = latest; width = wider; counts = regridded t.counts (t.from / t.width) t.width earliest wider (replicate (length t.counts) 0) }
     )
     else record { any = true; from = from; to = to; width = width_for from to; counts = t.counts }
 

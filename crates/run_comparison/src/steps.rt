@@ -1,10 +1,11 @@
 //! The spans that were kept over time.
-ghost use Rattle.std.specs.Prelude.{◌≡◌, ◌<◌, IfOk};
-ghost use Rattle.run_comparison.specs.Timeline.{covering, no_steps, reaching, regridded, steps_between, width_for, with_spans_at};
+ghost use Rattle.std.specs.Prelude.{◌≡◌, ◌<◌, length, replicate, IfOk};
+ghost use Rattle.run_comparison.specs.Timeline.{covering, least_doubling, no_steps, reaching, regridded, steps_between, width_for, with_spans_at};
 
 use crate::numbers::add_at;
 use std::alloc::{AllocError, Global};
 use std::marker::Model;
+use std::mem;
 
 /// The shortest step, in milliseconds.
 pub const LEAST_STEP: u64 = 1000;
@@ -29,6 +30,8 @@ pub struct Steps {
     width: u64,
     /// The spans of each step, from that of the earliest moment on; those behind the last one are 0.
     counts: Vec<u64>,
+    /// As many numbers, in which they are counted anew where the width changes.
+    spare: Vec<u64>,
 }
 
 impl Model for Steps {
@@ -39,7 +42,7 @@ impl Model for Steps {
 
     ghost view = { λ s. record { any = s.any; from = s.from; to = s.to; width = s.width; counts = s.counts.items } };
 
-    ghost invariant = { λ s. (0 < s.width) × (length s.counts.items ≡ 512) };
+    ghost invariant = { λ s. (0 < s.width) × (length s.counts.items ≡ 512) × (length s.spare.items ≡ 512) };
 }
 
 /// How many steps of a width a moment is behind an earlier one.
@@ -50,21 +53,40 @@ fn steps_between(from: u64, moment: u64, width: u64) -> u64
     (moment / width).saturating_sub(from / width)
 }
 
+/// The least of a width and so many of its doublings by which two moments are fewer than the most steps apart, or else the
+/// last of them.
+#[tactic(auto, using(crate::proofs::Widths::least_here, crate::proofs::Widths::least_later, crate::proofs::Widths::least_last))]
+fn least_doubling(doublings: u32, from: u64, to: u64, width: u64) -> u64
+    requires { 0 < width }
+    ensures width { result ≡ least_doubling doublings from to width }
+    ensures positive { 0 < result }
+{
+    let mut wide = width;
+    let mut left = doublings;
+    'doublings: while left > 0 {
+        if steps_between(from, to, wide) < 512 {
+            return wide;
+        }
+        wide = wide.saturating_mul(2);
+        left -= 1;
+    }
+    wide
+}
+
 /// The width of steps from one moment to another: the least, of the shortest one and its doublings, by which the moments
 /// are fewer than the most steps apart.
-#[tactic(auto, using(crate::proofs::Widths::least_here, crate::proofs::Widths::least_later), unfolding(crate::specs::Timeline::width_for))]
 pub fn width_for(from: u64, to: u64) -> u64
     ensures width { result ≡ width_for from to }
     ensures positive { 0 < result }
 {
-    let mut width = LEAST_STEP;
-    for doubling in 0..DOUBLINGS {
-        if steps_between(from, to, width) < MOST_STEPS as u64 {
-            return width;
-        }
-        width = width.saturating_mul(2);
-    }
-    width
+    least_doubling(DOUBLINGS, from, to, LEAST_STEP)
+}
+
+/// No number is left.
+fn clear(numbers: &mut [u64])
+    ensures { numbers.new ≡ replicate (length numbers.old) 0 }
+{
+    numbers.fill(0);
 }
 
 /// The spans of steps of one width, of which the first has this number, go into steps of another width, the first of
@@ -88,12 +110,14 @@ impl Steps {
         ensures { IfOk result (λ s. s ≡ no_steps) }
     {
         let counts = vec![in alloc; 0; MOST_STEPS]?;
+        let spare = vec![in alloc; 0; MOST_STEPS]?;
         Ok(Steps {
             any: false,
             from: 0,
             to: 0,
             width: LEAST_STEP,
             counts,
+            spare,
         })
     }
 
@@ -103,17 +127,18 @@ impl Steps {
     {
         let mut counts = vec![in alloc; 0; MOST_STEPS]?;
         counts.copy_from_slice(&self.counts);
+        let spare = vec![in alloc; 0; MOST_STEPS]?;
         Ok(Steps {
             any: self.any,
             from: self.from,
             to: self.to,
             width: self.width,
             counts,
+            spare,
         })
     }
 
     /// The steps reach from one moment to another too, in which nothing was kept.
-    #[tactic(auto, unfolding(crate::specs::Timeline::no_counts))]
     pub fn cover(&mut self, from: u64, to: u64)
         ensures { self.new ≡ covering self.old from to }
     {
@@ -127,10 +152,17 @@ impl Steps {
         let from = self.from.min(from);
         let to = self.to.max(to);
         let wider = width_for(from, to);
-        let mut counts = [0u64; MOST_STEPS];
         let first = self.from / self.width;
-        regrid(&self.counts, first, self.width, from, wider, &mut counts);
-        self.counts.copy_from_slice(&counts);
+        clear(&mut self.spare);
+        regrid(
+            &self.counts,
+            first,
+            self.width,
+            from,
+            wider,
+            &mut self.spare,
+        );
+        mem::swap(&mut self.counts, &mut self.spare);
         self.from = from;
         self.to = to;
         self.width = wider;
