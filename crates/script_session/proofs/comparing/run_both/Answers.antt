@@ -4,5 +4,5 @@ use Rattle.std.proofs.Common.{◌≡◌, Option, Some, None, ℕ, List, true, sy
 use Rattle.script_session.proofs.SideBySide.{closes-alone}
 use Rattle.script_session.proofs.comparing.run_both.Goals as goal
 
-pub returns-in-Ok : goal.returns-in-Ok
-returns-in-Ok g c = ?
+pub returns-in-Ok-Ok : goal.returns-in-Ok-Ok
+returns-in-Ok-Ok g c = ?
