@@ -8,7 +8,7 @@ use Rattle.tsc_script.specs.Instructions.{Instruction}
 use Rattle.tsc_script.specs.Progress.{Ends}
 use Rattle.tsc_script.specs.Reads.{KnownReader}
 use Rattle.script_run.specs.World.{Sizes}
-use Rattle.script_session.specs.Replay.{ReplayRun, ClosesWith}
+use Rattle.script_session.specs.Replay.{ReplayRun, LeadsIn}
 
 -- the sizes of a run by this configuration
 abbrev pub sizes_of : Config → Sizes
@@ -34,5 +34,5 @@ discarded_run config unread unread_after = record {
 abbrev pub BothPlayed : (old new : Config) → (unread unread_after : KnownReader) → (old_report new_report : Report) → Type 0
 BothPlayed old new unread unread_after old_report new_report =
     (played : List Instruction) × Ends unread.left unread_after.left played
-    × ClosesWith (discarded_run old unread unread_after) (up_state None 0) (Some old_report) played
-    × ClosesWith (discarded_run new unread unread_after) (up_state None 0) (Some new_report) played
+    × LeadsIn (discarded_run old unread unread_after) played (up_state None 0) (Some old_report)
+    × LeadsIn (discarded_run new unread unread_after) played (up_state None 0) (Some new_report)

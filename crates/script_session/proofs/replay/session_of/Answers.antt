@@ -11,12 +11,12 @@ use Rattle.script_session.proofs.replay.session_of.Goals as goal
 pub invariant_of-result-clause-none_due : goal.invariant_of-result-clause-none_due
 invariant_of-result-clause-none_due g c =
     let made = c.in-Ok.ensures.shards in
-    none-due-now (ends_of c.args.config.lanes false) _ _ refl made.2
+    none-due-now (ends_of c.args.config.now.lanes false) _ _ refl made.2
 
 pub invariant_of-result-clause-ends : goal.invariant_of-result-clause-ends
 invariant_of-result-clause-ends g c =
     let made = c.in-Ok.ensures.shards in
-    let lanes = ap (λ (k : Contacts). length k.connected) c.in-Ok.ensures.connections ∙ length-replicate c.args.config.lanes 0 in
+    let lanes = ap (λ (k : Contacts). length k.connected) c.in-Ok.ensures.connections ∙ length-replicate c.args.config.now.lanes 0 in
     let P = λ (n : ℕ). AreQuiet (ends_of n false) c.in-Ok.parts.shards.items in
     ends-now (length c.in-Ok.parts.connections.connected) false false _ _ refl refl (subst P (sym lanes) made.2)
 
@@ -24,7 +24,7 @@ pub invariant_of-result-clause-some : goal.invariant_of-result-clause-some
 invariant_of-result-clause-some g c = let made = c.in-Ok.ensures.shards in omega (arith, made.0, c.requires.ranges.some_shard)
 
 pub invariant_of-result-clause-empty : goal.invariant_of-result-clause-empty
-invariant_of-result-clause-empty g c = let made = c.in-Ok.ensures.shards in c.in-Ok.ensures.queues ∙ ap (empty_queues c.args.config.queue_capacity) (sym made.0)
+invariant_of-result-clause-empty g c = let made = c.in-Ok.ensures.shards in c.in-Ok.ensures.queues ∙ ap (empty_queues c.args.config.now.queue_capacity) (sym made.0)
 
 pub invariant_of-result-clause-nodes : goal.invariant_of-result-clause-nodes
-invariant_of-result-clause-nodes g c = let made = c.in-Ok.ensures.shards in nodes-new (settings_by c.args.config) c.in-Ok.parts.limiter c.in-Ok.parts.shards.items c.in-Ok.ensures.limiter made.1
+invariant_of-result-clause-nodes g c = let made = c.in-Ok.ensures.shards in nodes-new (settings_by c.args.config.now) c.in-Ok.parts.limiter c.in-Ok.parts.shards.items c.in-Ok.ensures.limiter made.1
