@@ -1,5 +1,5 @@
 -- What the head at the front of a stream asks for (RFC 9112, sections 2 to 3), by what `http_text` says of heads.
-use Rattle.std.specs.Prelude.{◌≡◌, ◌==◌, ◌&&◌, ◌||◌, ℕ, Bool, false, List, map, ◌++◌, Option, Some, None, length, take, drop, codes, bytes_eq, if◌then◌else◌}
+use Rattle.std.specs.Prelude.{◌≡◌, ◌==◌, ◌&&◌, ◌||◌, ℕ, Bool, false, List, map, ◌++◌, Option, Some, None, option_and_then, length, take, drop, codes, bytes_eq, if◌then◌else◌}
 use Rattle.std.specs.Result.{result_ok}
 use Rattle.hex.specs.Hex.{decode_sized}
 use Rattle.httparse.specs.Grammar.{RequestHead}
@@ -35,11 +35,15 @@ numbers_routed method target =
     else (if bytes_eq target (codes "/healthz") then only_by Get method Health
     else NotFound)
 
--- the bytes of the id in the target of a trace: `/trace/`, 32 hex digits of either case, and `.json`
+-- the digits in the target of a trace: `/trace/`, 32 of them, and `.json`
+abbrev pub digits_in : (target : List ℕ) → Option (List ℕ)
+digits_in target =
+    if (length target == 44) && (bytes_eq (take 7 target) (codes "/trace/") && bytes_eq (drop 39 target) (codes ".json"))
+    then Some (take 32 (drop 7 target)) else None
+
+-- the bytes of the id in the target of a trace, whose digits are hex ones of either case
 abbrev pub trace_in : (target : List ℕ) → Option (List ℕ)
-trace_in target =
-    if (length target == 44) && (bytes_eq (take 7 target) (codes "/trace/") && bytes_eq (drop 32 (drop 7 target)) (codes ".json"))
-    then result_ok (decode_sized (take 32 (drop 7 target)) 16) else None
+trace_in target = option_and_then (λ digits. result_ok (decode_sized digits 16)) (digits_in target)
 
 -- a target with such an id is asked by `GET`; what another one is for, is left
 abbrev pub trace_or : (id : Option (List ℕ)) → (method : List ℕ) → (other : Route) → Route

@@ -4,7 +4,8 @@ ghost use Rattle.httparse.specs.Grammar.{RequestHead};
 ghost use Rattle.httparse.specs.Spans.{IsRequestWithin};
 ghost use Rattle.http_text.specs.Head.{IsHead};
 ghost use Rattle.http_text.specs.Spans.{IsHeadAt};
-ghost use Rattle.admin_http.specs.Asked.{IsAsked, IsHeard, asked_by, by_trace, is_by, numbers_routed, only_by, refused_as, route_by, routed, trace_in};
+ghost use Rattle.std.specs.Option.{option_map};
+ghost use Rattle.admin_http.specs.Asked.{IsAsked, IsHeard, asked_by, by_trace, digits_in, is_by, numbers_routed, only_by, refused_as, route_by, routed, trace_in};
 ghost use Rattle.http_text.specs.Fields.{is_foreign};
 ghost use Rattle.httparse.specs.Spans.{name_and_value};
 
@@ -22,8 +23,8 @@ const TRACE_TARGET: usize = 44;
 /// Those in front of the id.
 const FRONT: usize = 7;
 
-/// The hex digits of the id.
-const DIGITS: usize = 32;
+/// So many bytes stand in the target of a trace before `.json`.
+const BEHIND: usize = 39;
 
 /// What is allowed makes no difference: a verdict only tells whether the text is a head.
 const NOTHING: Allowed = Allowed {
@@ -67,18 +68,27 @@ fn numbers_routed(method: &[u8], target: &[u8]) -> Route
     Route::NotFound
 }
 
-/// The bytes of the id in the target of a trace: `/trace/`, 32 hex digits of either case, and `.json`.
+/// The digits in the target of a trace: `/trace/`, 32 of them, and `.json`.
+fn digits_in(target: &[u8]) -> Option<&[u8]>
+    ensures { option_map (λ digits. digits.now) result ≡ digits_in target.now }
+{
+    if target.len() == TRACE_TARGET
+        && &target[..FRONT] == b"/trace/".as_slice()
+        && &target[BEHIND..] == b".json".as_slice()
+    {
+        Some(&target[FRONT..BEHIND])
+    } else {
+        None
+    }
+}
+
+/// The bytes of the id in the target of a trace, whose digits are hex ones of either case.
 fn trace_in(target: &[u8]) -> Option<[u8; 16]>
     ensures { result ≡ trace_in target.now }
 {
-    if target.len() != TRACE_TARGET {
-        return None;
-    }
-    let rest = &target[FRONT..];
-    if &target[..FRONT] == b"/trace/".as_slice() && &rest[DIGITS..] == b".json".as_slice() {
-        <[u8; 16]>::from_hex(&rest[..DIGITS]).ok()
-    } else {
-        None
+    match digits_in(target) {
+        Some(digits) => <[u8; 16]>::from_hex(digits).ok(),
+        None => None,
     }
 }
 
