@@ -89,13 +89,24 @@ impl DecisionListeners {
 
     /// Tells what became of a trace.
     fn tell<R: Wait>(&self, rt: &R, news: TraceNews) {
+        self.tell_who_write(rt, news);
+        self.tell_who_look(rt, news);
+    }
+
+    /// Tells what became of a trace to those who write a line for it.
+    fn tell_who_write<R: Wait>(&self, rt: &R, news: TraceNews) {
         if let Some(queue) = &self.queue {
             queue.put(rt, LineNews::Trace(news));
         }
-        if self.is_looked_at.load(Ordering::Relaxed) {
-            if let Some(ring) = self.ring.get() {
-                ring.put(rt, news);
-            }
+    }
+
+    /// Tells what became of a trace to those who look, if somebody does.
+    fn tell_who_look<R: Wait>(&self, rt: &R, news: TraceNews) {
+        if !self.is_looked_at.load(Ordering::Relaxed) {
+            return;
+        }
+        if let Some(ring) = self.ring.get() {
+            ring.put(rt, news);
         }
     }
 
