@@ -72,12 +72,14 @@ impl DecisionListeners {
 
     /// Tells of a trace that was decided, of which the first policies said this.
     pub fn decided<R: Wait>(&self, rt: &R, trace: &DecidedTrace, said: &[Said]) {
-        self.tell(rt, TraceNews::decided(*trace, said));
+        let news = TraceNews::decided(*trace, said);
+        self.tell(rt, &news);
     }
 
     /// Tells of a trace that left the full buffer undecided.
     pub fn evicted<R: Wait>(&self, rt: &R, trace: &EvictedTrace) {
-        self.tell(rt, TraceNews::Evicted(*trace));
+        let news = TraceNews::Evicted(*trace);
+        self.tell(rt, &news);
     }
 
     /// Tells of late spans, those who write alone.
@@ -88,25 +90,25 @@ impl DecisionListeners {
     }
 
     /// Tells what became of a trace.
-    fn tell<R: Wait>(&self, rt: &R, news: TraceNews) {
+    fn tell<R: Wait>(&self, rt: &R, news: &TraceNews) {
         self.tell_who_write(rt, news);
         self.tell_who_look(rt, news);
     }
 
     /// Tells what became of a trace to those who write a line for it.
-    fn tell_who_write<R: Wait>(&self, rt: &R, news: TraceNews) {
+    fn tell_who_write<R: Wait>(&self, rt: &R, news: &TraceNews) {
         if let Some(queue) = &self.queue {
-            queue.put(rt, LineNews::Trace(news));
+            queue.put(rt, LineNews::Trace(*news));
         }
     }
 
     /// Tells what became of a trace to those who look, if somebody does.
-    fn tell_who_look<R: Wait>(&self, rt: &R, news: TraceNews) {
+    fn tell_who_look<R: Wait>(&self, rt: &R, news: &TraceNews) {
         if !self.is_looked_at.load(Ordering::Relaxed) {
             return;
         }
         if let Some(ring) = self.ring.get() {
-            ring.put(rt, news);
+            ring.put(rt, *news);
         }
     }
 
