@@ -1,3 +1,0 @@
-//! The tests, by what they test.
-mod runs;
-mod texts;

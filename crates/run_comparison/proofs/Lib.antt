@@ -1,4 +1,0 @@
-pub mod Counted
-pub mod Differs
-pub mod Fronts
-pub mod Widths
