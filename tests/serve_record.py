@@ -1,5 +1,6 @@
 """Checks of `tsc serve` that keeps a record: a line for each request that was taken and each tick, which `tsc replay` takes."""
 
+import contextlib
 import gzip
 import json
 import os
@@ -237,8 +238,12 @@ def record_of_a_full_disk(start):
 def files_of(collector):
     """The regular files that it has open, but those of its own output."""
     folder = f"/proc/{collector.process.pid}/fd"
-    paths = {os.readlink(os.path.join(folder, it)) for it in os.listdir(folder)}
-    return {it for it in paths if os.path.isfile(it)} - {collector.printed, collector.errors.name}
+    paths = set()
+    for it in os.listdir(folder):
+        # One that was open a moment ago, as a file of /proc that a thread reads, may be gone.
+        with contextlib.suppress(FileNotFoundError):
+            paths.add(os.readlink(os.path.join(folder, it)))
+    return {it for it in paths if os.path.isfile(it) and not it.startswith("/proc/")} - {collector.printed, collector.errors.name}
 
 
 def nothing_without_the_key(start):
