@@ -146,7 +146,7 @@ fn put(
             put_trace(text, queue, trace, names);
         }
         LineNews::Late(spans) => {
-            if let Some(before) = late.with(*spans) {
+            if let Some(before) = late.with(spans) {
                 put_spans(text, queue, &before);
             }
         }

@@ -20,25 +20,14 @@ impl LateRun {
 
     /// More late spans: they join those before them, where they are of the same trace and met the same verdict; else those
     /// before are given back, and they stand alone.
-    pub fn with(&mut self, more: LateSpans) -> Option<LateSpans>
-        ensures left { result ≡ left_by self.old.spans more }
-        ensures joined { self.new.spans ≡ Some (joined self.old.spans more) }
+    pub fn with(&mut self, more: &LateSpans) -> Option<LateSpans>
+        ensures left { result ≡ left_by self.old.spans more.now }
+        ensures joined { self.new.spans ≡ Some (joined self.old.spans more.now) }
     {
-        match self.spans {
-            Some(before) if joins(&before, &more) => {
-                self.spans = Some(LateSpans {
-                    trace: more.trace,
-                    moment: more.moment,
-                    verdict: more.verdict,
-                    spans: before.spans.saturating_add(more.spans),
-                });
-                None
-            }
-            before => {
-                self.spans = Some(more);
-                before
-            }
-        }
+        let left = left_by(&self.spans, more);
+        let joined = joined(&self.spans, more);
+        self.spans = Some(joined);
+        left
     }
 
     /// Those that there are, and none from now on.
@@ -57,4 +46,29 @@ fn joins(before: &LateSpans, more: &LateSpans) -> bool
     ensures { result ≡ joins before.now more.now }
 {
     before.trace == more.trace && before.verdict == more.verdict
+}
+
+/// What stands once more spans were told.
+fn joined(before: &Option<LateSpans>, more: &LateSpans) -> LateSpans
+    ensures { result ≡ joined before.now more.now }
+{
+    match before {
+        Some(before) if joins(before, more) => LateSpans {
+            trace: more.trace,
+            moment: more.moment,
+            verdict: more.verdict,
+            spans: before.spans.saturating_add(more.spans),
+        },
+        _ => *more,
+    }
+}
+
+/// What gets its line then.
+fn left_by(before: &Option<LateSpans>, more: &LateSpans) -> Option<LateSpans>
+    ensures { result ≡ left_by before.now more.now }
+{
+    match before {
+        Some(before) if !joins(before, more) => Some(*before),
+        _ => None,
+    }
 }
