@@ -5,11 +5,10 @@ ghost use Rattle.tsc_config.specs.Values.{InRange};
 ghost use Rattle.collector_commands.specs.Configuration.{file_of};
 ghost use Rattle.collector_main.specs.Serving.{Serves, RunsTo, FilesTo, writes_file};
 
-use crate::deciding::opened_decisions;
 use crate::logging::{say_end, say_fault, say_lost, say_no_memory, say_refused, say_start};
 use crate::opening::{charge_of, copy_of, opened, watches};
-use crate::recording::opened_record;
 use crate::running::serve_with;
+use crate::writing_lines::{opened_decisions, opened_record};
 use collector_board::WriteWatch;
 use collector_commands::{FileFault, Outcome, Surroundings, config_of};
 use collector_serve::{Charge, EventWriter, SteadyClock};

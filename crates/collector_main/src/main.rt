@@ -9,13 +9,12 @@
 mod changed_settings;
 mod closing;
 mod collecting;
-mod deciding;
 mod logging;
 mod opening;
 mod program;
-mod recording;
 mod running;
 mod sending;
+mod writing_lines;
 
 use crate::program::program;
 use collector_commands::{Surroundings, without_memory};

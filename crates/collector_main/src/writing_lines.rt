@@ -1,0 +1,127 @@
+//! Where the lines of decisions go, and the record of what came.
+use crate::logging::say_fault;
+use collector_serve::{
+    Charge, DecisionLines, EventWriter, LineFile, LineMaker, LineWriter, LinesOf, RecordLines,
+};
+use pipeline::Machine;
+use std::alloc::{AllocError, Global};
+use std::fs::File;
+use std::io;
+use std::io::Write;
+use std::rt::Files;
+use std::sync::Arc;
+use tsc_config::Config;
+
+/// A mebibyte.
+const MEBIBYTE: u64 = 1_048_576;
+
+/// Starts what writes a line for each decided and each evicted trace and for late spans, where the configuration names a
+/// file for them. An error, which is said: it can't be opened.
+pub fn opened_decisions<T: Files<File = File> + Machine + Copy + Send + 'static, E: Write + Drop>(
+    rt: &T,
+    alloc: Global,
+    config: &Config,
+    charge: &Arc<Charge, Global>,
+    events: &mut EventWriter<E>,
+) -> io::Result<LineWriter>
+where
+    T::Dir: Send + 'static,
+{
+    let maker = decision_lines(alloc, config);
+    opened_lines(rt, alloc, config, charge, LinesOf::Decisions, maker, events)
+}
+
+/// Starts what writes a line for each request that is taken and each tick, where the configuration names a file for them.
+/// An error, which is said: it can't be opened.
+pub fn opened_record<T: Files<File = File> + Machine + Copy + Send + 'static, E: Write + Drop>(
+    rt: &T,
+    alloc: Global,
+    config: &Config,
+    charge: &Arc<Charge, Global>,
+    events: &mut EventWriter<E>,
+) -> io::Result<LineWriter>
+where
+    T::Dir: Send + 'static,
+{
+    let maker = Ok(RecordLines::new(alloc));
+    opened_lines(rt, alloc, config, charge, LinesOf::Record, maker, events)
+}
+
+/// The file that the configuration names for such lines, or an empty path, and the bytes after which a new one is begun, or
+/// 0.
+fn file_of(config: &Config, lines: LinesOf) -> (&str, u64) {
+    let (path, mebibytes) = match lines {
+        LinesOf::Decisions => (config.decisions.as_str(), config.decisions_max_mib),
+        LinesOf::Record => (config.request_record.as_str(), config.record_max_mib),
+    };
+    (path, mebibytes.saturating_mul(MEBIBYTE))
+}
+
+/// Starts what writes such lines, where the configuration names a file for them. An error, which is said: it can't be opened.
+// The thread opens files, so all that the runtime has of these must be free to go there, folders as well (D-387).
+fn opened_lines<
+    T: Files<File = File> + Machine + Copy + Send + 'static,
+    L: LineMaker + Send + Drop + 'static,
+    E: Write + Drop,
+>(
+    rt: &T,
+    alloc: Global,
+    config: &Config,
+    charge: &Arc<Charge, Global>,
+    lines: LinesOf,
+    maker: io::Result<L>,
+    events: &mut EventWriter<E>,
+) -> io::Result<LineWriter>
+where
+    T::Dir: Send + 'static,
+{
+    let (path, _longest) = file_of(config, lines);
+    if path.is_empty() {
+        return Ok(LineWriter::none());
+    }
+    match writer_of(rt, alloc, config, charge, lines, maker) {
+        Ok(writer) => Ok(writer),
+        Err(error) => {
+            say_fault(rt, alloc, events, "cannot_write", path, error);
+            Err(error)
+        }
+    }
+}
+
+/// Starts what writes such lines to the file that the configuration names.
+fn writer_of<
+    T: Files<File = File> + Machine + Copy + Send + 'static,
+    L: LineMaker + Send + Drop + 'static,
+>(
+    rt: &T,
+    alloc: Global,
+    config: &Config,
+    charge: &Arc<Charge, Global>,
+    lines: LinesOf,
+    maker: io::Result<L>,
+) -> io::Result<LineWriter>
+where
+    T::Dir: Send + 'static,
+{
+    let (path, longest) = file_of(config, lines);
+    let path = String::from_str(alloc, path)?;
+    // As many as of the output.
+    let keep = u32::try_from(config.output_keep).unwrap_or(u32::MAX);
+    let shared = Arc::try_clone(charge)?;
+    let file = LineFile::open(rt, alloc, path, keep, longest, shared, lines)?;
+    LineWriter::start(rt, alloc, file, maker?, Arc::try_clone(charge)?)
+}
+
+/// What makes the lines of decisions. An error: there is no memory for the names of the policies.
+fn decision_lines(alloc: Global, config: &Config) -> io::Result<DecisionLines> {
+    Ok(DecisionLines::new(names_of(alloc, config)?))
+}
+
+/// The names of the policies, in order.
+fn names_of(alloc: Global, config: &Config) -> Result<Vec<String>, AllocError> {
+    let mut names = Vec::new(alloc);
+    for policy in config.policies.as_slice() {
+        names.push(String::from_str(alloc, policy.name.as_str())?)?;
+    }
+    Ok(names)
+}
