@@ -1,0 +1,111 @@
+//! The spans that were kept of each service.
+ghost use Rattle.std.specs.Prelude.{◌≡◌, length, map, string_bytes, take, IfOk, OnOk, OnErr};
+ghost use Rattle.run_comparison.specs.Services.{KeepsFront, no_services, with_place, with_span};
+
+use crate::names::place_of;
+use crate::numbers::add_at;
+use std::alloc::{AllocError, Global};
+use std::marker::Model;
+
+/// Of how many services a run counts the spans: those of more are counted together.
+pub const MOST_SERVICES: usize = 1000;
+
+/// The spans that were kept of each service, in the order in which the first of each was kept.
+#[derive(Drop)]
+pub struct Services {
+    /// The names of those that have a place. There are few, so they stand in a list.
+    names: Vec<String>,
+    /// Their spans, by their places; those behind the last one are 0.
+    spans: Vec<u64>,
+    /// The spans of services without a place.
+    beyond: u64,
+}
+
+impl Model for Services {
+    ghost use Rattle.std.specs.Prelude.{map, string_bytes};
+    ghost use Rattle.run_comparison.specs.Services.{Services};
+
+    ghost Value = { Services };
+
+    ghost view = { λ s. record { names = map string_bytes s.names.items; spans = s.spans.items; beyond = s.beyond } };
+}
+
+impl Services {
+    /// No span was kept. `Err` where memory was refused.
+    #[tactic(auto, unfolding(crate::specs::Services::no_spans))]
+    pub fn new(alloc: Global) -> Result<Services, AllocError>
+        ensures { IfOk result (λ s. s ≡ no_services) }
+    {
+        Ok(Services {
+            names: Vec::new(alloc),
+            spans: vec![in alloc; 0; MOST_SERVICES]?,
+            beyond: 0,
+        })
+    }
+
+    /// How many services have a place.
+    pub fn len(&self) -> usize
+        ensures { result ≡ length self.now.names }
+    {
+        self.names.len()
+    }
+
+    /// A service gets a place, if it has none and there is room for one more. `Err` where memory was refused: all is as
+    /// it was.
+    pub fn place(&mut self, name: &str) -> Result<(), AllocError>
+        ensures placed { OnOk result (self.new ≡ with_place self.old name.now) }
+        ensures front { KeepsFront self.old self.new }
+        ensures same { OnErr result (self.new ≡ self.old) }
+    {
+        if self.names.len() >= MOST_SERVICES || place_of(&self.names, name).is_some() {
+            return Ok(());
+        }
+        let name = String::from_str(*self.names.allocator(), name)?;
+        self.names.push(name)?;
+        Ok(())
+    }
+
+    /// Only the first services keep their places.
+    pub fn truncate(&mut self, len: usize)
+        ensures { self.new ≡ record self.old { names = take len self.old.names } }
+    {
+        self.names.truncate(len);
+    }
+
+    /// One span more of a service was kept; it is counted with those of others where the service has no place.
+    pub fn add(&mut self, name: &str)
+        ensures { self.new ≡ with_span self.old name.now }
+    {
+        match place_of(&self.names, name) {
+            Some(place) => add_at(&mut self.spans, place, 1),
+            None => self.beyond = self.beyond.saturating_add(1),
+        }
+    }
+
+    /// How many spans of a service were kept, where it has a place.
+    pub fn spans_of(&self, name: &str) -> Option<u64> {
+        let place = place_of(&self.names, name)?;
+        self.spans.get(place).copied()
+    }
+
+    /// The names of the services that have a place.
+    pub fn names(&self) -> &[String]
+        ensures { map string_bytes result.now ≡ self.now.names }
+    {
+        &self.names
+    }
+
+    /// Their spans, by their places; those behind the last one are 0.
+    pub fn spans(&self) -> &[u64]
+        ensures { result.now ≡ self.now.spans }
+    {
+        &self.spans
+    }
+
+    /// How many spans were kept of services without a place.
+    pub fn beyond(&self) -> u64
+        ensures { result ≡ self.now.beyond }
+    {
+        self.beyond
+    }
+}
