@@ -1,5 +1,5 @@
 -- How traces ended in a run.
-use Rattle.std.specs.Prelude.{ℕ, ◌+◌, Bool, true, false, ◌||◌, if◌then◌else◌, List, length, Option, None, Some, ◌&&◌, is_none, nat_le}
+use Rattle.std.specs.Prelude.{ℕ, ◌+◌, Bool, true, false, ◌||◌, if◌then◌else◌, List, length, Option, None, Some, ◌&&◌, is_none, nat_le, option_and_then, slice_get}
 use Rattle.std.specs.Map.{lookup}
 use Rattle.indexmap.specs.IndexMap.{insert_entry}
 use Rattle.span_ids.specs.Same.{same_trace}
@@ -9,9 +9,15 @@ use Rattle.span_ids.specs.declared.outcome.Verdict.TheVariants.{Sampled, NotSamp
 use Rattle.decision_line.specs.declared.decision.DecidedTrace.{DecidedTrace}
 use Rattle.decision_line.specs.declared.decision.EvictedTrace.{EvictedTrace}
 use Rattle.run_comparison.specs.Amount.{capped}
+use Rattle.run_comparison.specs.declared.end.HowEnded.{HowEnded}
 use Rattle.run_comparison.specs.declared.end.HowEnded.TheVariants.{Decided, Evicted}
 use Rattle.run_comparison.specs.declared.end.TraceEnd.{TraceEnd}
 use Rattle.run_comparison.specs.declared.traces.TheConstants.{MOST_TRACES}
+
+-- the place of the policy that decided, where one did
+abbrev pub decider_in : HowEnded → Option ℕ
+decider_in (Decided verdict cause decider) = decider
+decider_in Evicted = None
 
 -- whether a verdict keeps a trace
 abbrev pub keeps : Verdict → Bool
@@ -39,6 +45,10 @@ end_of ends trace = lookup (same_trace trace) ends
 abbrev pub is_kept_by : Option TraceEnd → Bool
 is_kept_by None = false
 is_kept_by (Some end) = end.kept
+
+-- the name of the policy that decided, where one did, of the names of all
+abbrev pub policy_of : TraceEnd → (names : List (List ℕ)) → Option (List ℕ)
+policy_of end names = option_and_then (slice_get names) (decider_in end.how)
 
 -- an end behind an earlier one of the same trace, where there was one: a trace that was kept once stays kept
 abbrev pub end_behind : (earlier : Option TraceEnd) → TraceEnd → TraceEnd

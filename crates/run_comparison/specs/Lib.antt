@@ -4,6 +4,7 @@ pub mod Names
 pub mod Numbers
 pub mod Overlaps
 pub mod Policies
+pub mod Rows
 pub mod Run
 pub mod Services
 pub mod Timeline

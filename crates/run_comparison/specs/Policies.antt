@@ -1,5 +1,5 @@
 -- What each policy kept.
-use Rattle.std.specs.Prelude.{ℕ, List, Option, None, Some, slice_get, slice_set}
+use Rattle.std.specs.Prelude.{ℕ, List, Option, None, Some, fold, slice_get, slice_set}
 use Rattle.run_comparison.specs.Amount.{plus}
 use Rattle.run_comparison.specs.declared.amount.Amount.{Amount}
 
@@ -17,3 +17,7 @@ with_amount_at p place (Some kept) more = record { by_place = slice_set p.by_pla
 abbrev pub with_amount : PolicyAmounts → (place : Option ℕ) → Amount → PolicyAmounts
 with_amount p None more = record { by_place = p.by_place; without = plus p.without more }
 with_amount p (Some place) more = with_amount_at p place (slice_get p.by_place place) more
+
+-- what was kept in all
+abbrev pub kept_by_all : PolicyAmounts → Amount
+kept_by_all p = fold plus p.without p.by_place

@@ -10,10 +10,8 @@ use Rattle.decision_line.specs.declared.decision.EvictedTrace.{EvictedTrace}
 use Rattle.span_size.specs.Size.{size_of, span_text}
 use Rattle.run_comparison.specs.Amount.{capped, nothing}
 use Rattle.run_comparison.specs.declared.amount.Amount.{Amount}
-use Rattle.run_comparison.specs.declared.end.HowEnded.{HowEnded}
-use Rattle.run_comparison.specs.declared.end.HowEnded.TheVariants.{Decided, Evicted}
 use Rattle.run_comparison.specs.declared.end.TraceEnd.{TraceEnd}
-use Rattle.run_comparison.specs.Ends.{Traces, decided_end, evicted_end, end_of, with_end}
+use Rattle.run_comparison.specs.Ends.{Traces, decided_end, decider_in, evicted_end, end_of, with_end}
 use Rattle.run_comparison.specs.Policies.{PolicyAmounts, with_amount}
 use Rattle.run_comparison.specs.Services.{Services, no_services, with_kept_spans}
 use Rattle.run_comparison.specs.Timeline.{Timeline, no_steps, with_spans_at}
@@ -60,11 +58,6 @@ with_decision run decision spans = with_kept (with_ended run decision.trace (dec
 -- a trace was evicted
 abbrev pub with_eviction : Run → EvictedTrace → Run
 with_eviction run evicted = with_ended run evicted.trace (evicted_end evicted)
-
--- the policy that decided
-abbrev pub decider_in : HowEnded → Option ℕ
-decider_in (Decided verdict cause decider) = decider
-decider_in Evicted = None
 
 -- the policy that decided the trace of a span, where its last end was decided, and stands in the table
 abbrev pub decider_of : Traces → Arrival → Option ℕ

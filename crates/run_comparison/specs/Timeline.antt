@@ -1,5 +1,5 @@
 -- The spans that were kept over time.
-use Rattle.std.specs.Prelude.{ℕ, zero, suc, ◌+◌, ◌-◌, ◌*◌, ◌/◌, ◌==◌, Bool, true, false, List, [], ◌∷◌, length, if◌then◌else◌, nat_lt, min, max, ◌||◌, not, replicate}
+use Rattle.std.specs.Prelude.{ℕ, zero, suc, ◌+◌, ◌-◌, ◌*◌, ◌/◌, ◌==◌, Bool, true, false, List, [], ◌∷◌, length, if◌then◌else◌, nat_lt, min, max, ◌||◌, not, replicate, take, Option, None, Some}
 use Rattle.run_comparison.specs.Amount.{capped}
 use Rattle.run_comparison.specs.Numbers.{more_at}
 use Rattle.run_comparison.specs.declared.steps.TheConstants.{LEAST_STEP, MOST_STEPS, DOUBLINGS}
@@ -65,3 +65,15 @@ more_in t moment spans = record { any = t.any; from = t.from; to = t.to; width =
 -- so many spans were kept at a moment
 abbrev pub with_spans_at : Timeline → (moment spans : ℕ) → Timeline
 with_spans_at t moment spans = if spans == 0 then t else more_in (reaching t moment) moment spans
+
+-- when the first step begins
+abbrev pub begin_of : Timeline → ℕ
+begin_of t = capped (t.from / t.width * t.width)
+
+-- the spans of each step, from that of the earliest moment to that of the latest
+abbrev pub counts_of : Timeline → List ℕ
+counts_of t = if t.any then take (steps_between t.from t.to t.width + 1) t.counts else []
+
+-- the earliest and the latest moment, where there was one
+abbrev pub range_of : Timeline → Option (ℕ × ℕ)
+range_of t = if t.any then Some (t.from, t.to) else None

@@ -1,6 +1,6 @@
 //! How a trace ended.
-ghost use Rattle.std.specs.Prelude.{◌≡◌};
-ghost use Rattle.run_comparison.specs.Ends.{decided_end, end_behind, evicted_end};
+ghost use Rattle.std.specs.Prelude.{◌≡◌, map, option_map, string_bytes};
+ghost use Rattle.run_comparison.specs.Ends.{decided_end, end_behind, evicted_end, policy_of};
 
 use decision_line::{DecidedTrace, DueCause, EvictedTrace};
 use span_ids::Verdict;
@@ -47,7 +47,9 @@ impl TraceEnd {
     }
 
     /// The name of the policy that decided, where one did, of the names of all.
-    pub fn policy<'a>(&self, names: &'a [String]) -> Option<&'a str> {
+    pub fn policy<'a>(&self, names: &'a [String]) -> Option<&'a str>
+        ensures { option_map (λ name. name.now) result ≡ policy_of self.now (map string_bytes names.now) }
+    {
         match self.how {
             HowEnded::Decided {
                 decider: Some(place),

@@ -1,6 +1,7 @@
 //! What one run decided and kept, told while it runs.
 ghost use Rattle.std.specs.Prelude.{◌≡◌, map, string_bytes, option_map, IfOk, OnErr, OnOk};
 ghost use Rattle.run_comparison.specs.Ends.{decided_end, with_end};
+ghost use Rattle.run_comparison.specs.Policies.{kept_by_all};
 ghost use Rattle.run_comparison.specs.Run.{decider_of, kept_by_decision, no_run, with_decision, with_eviction, with_late_span};
 ghost use Rattle.run_comparison.specs.Services.{KeepsFront, with_places, with_spans};
 
@@ -33,6 +34,7 @@ pub struct KeptRun {
 
 impl Model for KeptRun {
     ghost use Rattle.std.specs.Prelude.{map, string_bytes};
+    ghost use Rattle.run_comparison.specs.Policies.{kept_by_all};
     ghost use Rattle.run_comparison.specs.Run.{Run};
 
     ghost Value = { Run };
@@ -199,7 +201,9 @@ impl KeptRun {
     }
 
     /// What all policies kept, and what was kept without one.
-    pub fn kept(&self) -> Amount {
+    pub fn kept(&self) -> Amount
+        ensures { result ≡ kept_by_all self.now.policies }
+    {
         self.policies.all()
     }
 

@@ -1,7 +1,7 @@
 //! What each policy kept.
 ghost use Rattle.std.specs.Prelude.{◌≡◌, IfOk, fold, replicate};
 ghost use Rattle.run_comparison.specs.Amount.{nothing, plus};
-ghost use Rattle.run_comparison.specs.Policies.{with_amount};
+ghost use Rattle.run_comparison.specs.Policies.{kept_by_all, with_amount};
 
 use crate::amount::Amount;
 use std::alloc::{AllocError, Global};
@@ -66,7 +66,7 @@ impl PolicyAmounts {
 
     /// What was kept in all.
     pub fn all(&self) -> Amount
-        ensures { result ≡ fold plus self.now.without self.now.by_place }
+        ensures { result ≡ kept_by_all self.now }
     {
         sum_of(self.without, &self.by_place)
     }

@@ -1,5 +1,6 @@
-//! Policies and services of both runs, side by side.
-ghost use Rattle.std.specs.Prelude.{◌≡◌};
+//! Policies and services of both runs, side by side, and the same steps of time.
+ghost use Rattle.std.specs.Prelude.{◌≡◌, ◌++◌, map, string_bytes, IfOk, OnOk};
+ghost use Rattle.run_comparison.specs.Rows.{amount_at, beside, is_first, new_policies, new_services, old_policies, old_services, policy_rows, same_steps, seen_policy, seen_service, service_rows, stands_alone, covering_those_of};
 
 use crate::amount::Amount;
 use crate::kept_run::KeptRun;
@@ -25,81 +26,164 @@ pub struct ServiceRow<'a> {
 }
 
 /// What the policy at a place kept.
-fn amount_at(run: &KeptRun, place: usize) -> Option<Amount> {
+fn amount_at(run: &KeptRun, place: usize) -> Option<Amount>
+    ensures { result ≡ amount_at run.now place }
+{
     run.policies().by_place().get(place).copied()
 }
 
-/// What the first policy of a name kept, where that is at this place in its own run.
-fn other_amount(run: &KeptRun, name: &str, place: usize, first: Option<usize>) -> Option<Amount> {
-    if first != Some(place) {
+/// Whether the policy at a place is the first of its name.
+fn is_first(names: &[String], name: &str, place: usize) -> bool
+    ensures { result ≡ is_first (map string_bytes names.now) name.now place }
+{
+    match place_of(names, name) {
+        Some(first) => first == place,
+        None => false,
+    }
+}
+
+/// What the first policy of a name kept, beside the first of that name in the other run.
+fn beside(run: &KeptRun, first: bool, name: &str) -> Option<Amount>
+    ensures { result ≡ beside run.now first name.now }
+{
+    if !first {
         return None;
     }
     amount_at(run, place_of(run.names(), name)?)
 }
 
-/// The policies of both runs: those of the old one in their order, each beside the first of its name in the new one,
-/// and then those of the new one that stand beside none.
-pub fn policy_rows<'a>(
+/// The policies of the old run, each beside the first of its name in the new one, if it is the first.
+fn old_policies<'a>(
     alloc: Global,
     old: &'a KeptRun,
     new: &'a KeptRun,
-) -> Result<Vec<PolicyRow<'a>>, AllocError> {
+) -> Result<Vec<PolicyRow<'a>>, AllocError>
+    ensures { IfOk result (λ rows. map seen_policy rows.items ≡ old_policies old.now new.now 0 old.now.names) }
+{
     let mut rows = Vec::new(alloc);
     for (place, name) in old.names().iter().enumerate() {
-        let first = place_of(old.names(), name.as_str());
+        let name = name.as_str();
         rows.push(PolicyRow {
-            name: name.as_str(),
+            name,
             old: amount_at(old, place),
-            new: other_amount(new, name.as_str(), place, first),
+            new: beside(new, is_first(old.names(), name, place), name),
         })?;
     }
+    Ok(rows)
+}
+
+/// Whether a policy of the new run stands beside none of the old one.
+fn stands_alone(old: &KeptRun, new: &KeptRun, place: usize, name: &str) -> bool
+    ensures { result ≡ stands_alone old.now new.now place name.now }
+{
+    !is_first(new.names(), name, place) || place_of(old.names(), name).is_none()
+}
+
+/// Adds those of the new run that stand beside none.
+fn add_new_policies<'a>(
+    rows: &mut Vec<PolicyRow<'a>>,
+    old: &'a KeptRun,
+    new: &'a KeptRun,
+) -> Result<(), AllocError>
+    ensures { OnOk result (map seen_policy rows.new.items ≡ map seen_policy rows.old.items ++ new_policies old.now new.now 0 new.now.names) }
+{
     for (place, name) in new.names().iter().enumerate() {
-        let first = place_of(new.names(), name.as_str());
-        if first != Some(place) || place_of(old.names(), name.as_str()).is_none() {
+        let name = name.as_str();
+        if stands_alone(old, new, place, name) {
             rows.push(PolicyRow {
-                name: name.as_str(),
+                name,
                 old: None,
                 new: amount_at(new, place),
             })?;
         }
     }
+    Ok(())
+}
+
+/// The policies of both runs: those of the old one in their order, each beside the first of its name in the new one,
+/// and then those of the new one that stand beside none. `Err` where memory was refused.
+pub fn policy_rows<'a>(
+    alloc: Global,
+    old: &'a KeptRun,
+    new: &'a KeptRun,
+) -> Result<Vec<PolicyRow<'a>>, AllocError>
+    ensures { IfOk result (λ rows. map seen_policy rows.items ≡ policy_rows old.now new.now) }
+{
+    let mut rows = old_policies(alloc, old, new)?;
+    add_new_policies(&mut rows, old, new)?;
     Ok(rows)
 }
 
-/// The services of both runs: those of the old one in their order, and then those of the new one alone.
-pub fn service_rows<'a>(
+/// The services of the old run, each beside that of its name in the new one.
+fn old_services<'a>(
     alloc: Global,
     old: &'a Services,
     new: &'a Services,
-) -> Result<Vec<ServiceRow<'a>>, AllocError> {
+) -> Result<Vec<ServiceRow<'a>>, AllocError>
+    ensures { IfOk result (λ rows. map seen_service rows.items ≡ old_services old.now new.now 0 old.now.names) }
+{
     let mut rows = Vec::new(alloc);
-    for (name, spans) in old.names().iter().zip(old.spans()) {
+    for (place, name) in old.names().iter().enumerate() {
         rows.push(ServiceRow {
             name: name.as_str(),
-            old: *spans,
-            new: new.spans_of(name.as_str()).unwrap_or(0),
+            old: old.spans_at(place),
+            new: new.spans_of(name.as_str()),
         })?;
     }
-    for (name, spans) in new.names().iter().zip(new.spans()) {
+    Ok(rows)
+}
+
+/// Adds those of the new run that have no place in the old one.
+fn add_new_services<'a>(
+    rows: &mut Vec<ServiceRow<'a>>,
+    old: &'a Services,
+    new: &'a Services,
+) -> Result<(), AllocError>
+    ensures { OnOk result (map seen_service rows.new.items ≡ map seen_service rows.old.items ++ new_services old.now new.now 0 new.now.names) }
+{
+    for (place, name) in new.names().iter().enumerate() {
         if place_of(old.names(), name.as_str()).is_none() {
             rows.push(ServiceRow {
                 name: name.as_str(),
                 old: 0,
-                new: *spans,
+                new: new.spans_at(place),
             })?;
         }
     }
+    Ok(())
+}
+
+/// The services of both runs: those of the old one in the order of their first spans, and then those of the new one
+/// alone. `Err` where memory was refused.
+pub fn service_rows<'a>(
+    alloc: Global,
+    old: &'a Services,
+    new: &'a Services,
+) -> Result<Vec<ServiceRow<'a>>, AllocError>
+    ensures { IfOk result (λ rows. map seen_service rows.items ≡ service_rows old.now new.now) }
+{
+    let mut rows = old_services(alloc, old, new)?;
+    add_new_services(&mut rows, old, new)?;
     Ok(rows)
 }
 
-/// The steps of both runs, in steps of the same width that reach from the earliest moment of both to the latest.
-pub fn same_steps(alloc: Global, old: &Steps, new: &Steps) -> Result<(Steps, Steps), AllocError> {
-    let mut both = (old.try_clone(alloc)?, new.try_clone(alloc)?);
-    if let Some((from, to)) = new.range() {
-        both.0.cover(from, to);
+/// The steps of one run reach as far as those of another, too.
+fn covering_those_of(alloc: Global, of: &Steps, other: &Steps) -> Result<Steps, AllocError>
+    ensures { IfOk result (λ steps. steps ≡ covering_those_of of.now other.now) }
+{
+    let mut steps = of.try_clone(alloc)?;
+    if let Some((from, to)) = other.range() {
+        steps.cover(from, to);
     }
-    if let Some((from, to)) = old.range() {
-        both.1.cover(from, to);
-    }
-    Ok(both)
+    Ok(steps)
+}
+
+/// The steps of both runs, which reach from the earliest moment of both to the latest, so that they have one width.
+/// `Err` where memory was refused.
+pub fn same_steps(alloc: Global, old: &Steps, new: &Steps) -> Result<(Steps, Steps), AllocError>
+    ensures { IfOk result (λ steps. (steps.0, steps.1) ≡ same_steps old.now new.now) }
+{
+    let of_old = covering_those_of(alloc, old, new)?;
+    let of_new = covering_those_of(alloc, new, old)?;
+    Ok((of_old, of_new))
 }

@@ -1,5 +1,6 @@
 //! The spans that were kept of each service.
-ghost use Rattle.std.specs.Prelude.{◌≡◌, length, map, string_bytes, take, IfOk, OnOk, OnErr};
+ghost use Rattle.std.specs.Prelude.{◌≡◌, length, map, slice_index_or, string_bytes, take, IfOk, OnOk, OnErr};
+ghost use Rattle.run_comparison.specs.Rows.{spans_of};
 ghost use Rattle.run_comparison.specs.Services.{KeepsFront, no_services, with_place, with_span};
 
 use crate::names::place_of;
@@ -82,10 +83,24 @@ impl Services {
         }
     }
 
+    /// How many spans were kept of the service at a place.
+    pub fn spans_at(&self, place: usize) -> u64
+        ensures { result ≡ slice_index_or self.now.spans place 0 }
+    {
+        match self.spans.get(place) {
+            Some(spans) => *spans,
+            None => 0,
+        }
+    }
+
     /// How many spans of a service were kept, where it has a place.
-    pub fn spans_of(&self, name: &str) -> Option<u64> {
-        let place = place_of(&self.names, name)?;
-        self.spans.get(place).copied()
+    pub fn spans_of(&self, name: &str) -> u64
+        ensures { result ≡ spans_of self.now name.now }
+    {
+        match place_of(&self.names, name) {
+            Some(place) => self.spans_at(place),
+            None => 0,
+        }
     }
 
     /// The names of the services that have a place.

@@ -1,6 +1,6 @@
 //! The spans that were kept over time.
 ghost use Rattle.std.specs.Prelude.{◌≡◌, ◌<◌, length, replicate, IfOk};
-ghost use Rattle.run_comparison.specs.Timeline.{covering, least_doubling, no_steps, reaching, regridded, steps_between, width_for, with_spans_at};
+ghost use Rattle.run_comparison.specs.Timeline.{begin_of, counts_of, covering, least_doubling, no_steps, range_of, reaching, regridded, steps_between, width_for, with_spans_at};
 
 use crate::numbers::add_at;
 use std::alloc::{AllocError, Global};
@@ -190,7 +190,9 @@ impl Steps {
     }
 
     /// When the first step begins, in milliseconds.
-    pub fn begin(&self) -> u64 {
+    pub fn begin(&self) -> u64
+        ensures { result ≡ begin_of self.now }
+    {
         (self.from / self.width).saturating_mul(self.width)
     }
 
@@ -202,7 +204,9 @@ impl Steps {
     }
 
     /// The spans of each step, from that of the earliest moment to that of the latest.
-    pub fn counts(&self) -> &[u64] {
+    pub fn counts(&self) -> &[u64]
+        ensures { result.now ≡ counts_of self.now }
+    {
         if !self.any {
             return &[];
         }
@@ -215,7 +219,9 @@ impl Steps {
     }
 
     /// The earliest and the latest moment, where one was told.
-    pub fn range(&self) -> Option<(u64, u64)> {
+    pub fn range(&self) -> Option<(u64, u64)>
+        ensures { result ≡ range_of self.now }
+    {
         if self.any {
             Some((self.from, self.to))
         } else {
