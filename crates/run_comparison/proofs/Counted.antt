@@ -4,15 +4,15 @@ use Rattle.std.proofs.Common.{◌≡◌, ◌∙◌, ◌+◌, ◌-◌, ◌^◌, m
 use Rattle.std.proofs.lemmas.List.{drop_more, map-append}
 use Rattle.std.proofs.lemmas.List.Sums.{sum_by-append}
 use Rattle.std.proofs.lemmas.Option.{slice_get_within, get_or_from_slice_get}
-use Rattle.std.specs.Prelude.{Some, count_by, slice_get, sum_by}
+use Rattle.std.specs.Prelude.{Some, count_by, is_none, slice_get, sum_by}
 use Rattle.std.specs.Map.{keys_of}
 use Rattle.span_ids.specs.declared.ids.TraceId.{TraceId}
 use Rattle.run_comparison.specs.Amount.{capped}
-use Rattle.run_comparison.specs.Ends.{Traces}
+use Rattle.run_comparison.specs.Ends.{Traces, end_of}
 use Rattle.run_comparison.specs.declared.overlap.KeptBy.{KeptBy}
 use Rattle.run_comparison.specs.declared.overlap.KeptBy.TheVariants.{Both, OnlyOld, OnlyNew, Neither, Unknown}
 use Rattle.run_comparison.specs.declared.overlap.Overlap.{Overlap}
-use Rattle.run_comparison.specs.Overlaps.{counted, counted_more, ended_in_new, fold_kept, is_both, is_neither, is_only_new, is_only_old, is_unknown, nobody, overlap_of, trace_kept_by}
+use Rattle.run_comparison.specs.Overlaps.{counted, counted_more, ended_in_new, fold_kept, fold_new_kept, is_both, is_neither, is_only_new, is_only_old, is_unknown, nobody, overlap_of, trace_kept_by}
 
 -- ---- one more
 
@@ -57,10 +57,19 @@ module _ (old new : Traces) where
   in-a-row o [] ys = refl
   in-a-row o (x ∷ xs) ys = in-a-row (counted_more o (trace_kept_by old new x)) xs ys
 
-  pub all_counted : fold_kept old new (fold_kept old new nobody (keys_of old.ends)) (ended_in_new old (keys_of new.ends)) ≡ overlap_of old new
+  -- those that haven't ended in the old run are counted, one after the other
+  of-new : (o : Overlap) (traces : List TraceId) → fold_new_kept old new o traces ≡ fold_kept old new o (ended_in_new old traces)
+  of-new o [] = refl
+  of-new o (t ∷ ts) = (elim (is_none (end_of old.ends t)) as (λ b. fold_new_kept old new (cond b (counted_more o (trace_kept_by old new t)) o) ts ≡ fold_kept old new o (cond b (t ∷ ended_in_new old ts) (ended_in_new old ts))) [
+    | true ↦ of-new (counted_more o (trace_kept_by old new t)) ts
+    | false ↦ of-new o ts
+  ])
+
+  pub all_counted : fold_new_kept old new (fold_kept old new nobody (keys_of old.ends)) (keys_of new.ends) ≡ overlap_of old new
   all_counted =
       let traces : List TraceId = keys_of old.ends ++ ended_in_new old (keys_of new.ends) in
-      in-a-row nobody (keys_of old.ends) (ended_in_new old (keys_of new.ends)) ∙ of-traces nobody traces ∙ all [] (map (trace_kept_by old new) traces)
+      of-new (fold_kept old new nobody (keys_of old.ends)) (keys_of new.ends)
+      ∙ in-a-row nobody (keys_of old.ends) (ended_in_new old (keys_of new.ends)) ∙ of-traces nobody traces ∙ all [] (map (trace_kept_by old new) traces)
 
 -- ---- a list from a place on
 

@@ -2,14 +2,14 @@
 -- For the contract of `first_differing`.
 use Rattle.std.proofs.Common.{◌≡◌, ◌∙◌, ◌<◌, ◌≤◌, ◌+◌, min, ℕ, Bool, true, false, cond, ◌&&◌, List, [], ◌∷◌, ◌++◌, map, fold, length, take, nat_lt, refl, sym, ap, append_assoc, append-nil, length-append, arith}
 use Rattle.std.proofs.lemmas.Bool.Decides.{nat_tests}
-use Rattle.std.proofs.lemmas.List.{length-take, map-append, take_all, take-append-le}
+use Rattle.std.proofs.lemmas.List.{length-map, length-take, map-append, take_all, take-append-le}
 use Rattle.std.proofs.lemmas.List.Elements.{filter-append}
-use Rattle.std.specs.Prelude.{filter}
+use Rattle.std.specs.Prelude.{filter, is_none}
 use Rattle.std.specs.Map.{keys_of}
 use Rattle.span_ids.specs.declared.ids.TraceId.{TraceId}
-use Rattle.run_comparison.specs.Ends.{Traces}
+use Rattle.run_comparison.specs.Ends.{Traces, end_of}
 use Rattle.run_comparison.specs.declared.differing.Differing.{Differing}
-use Rattle.run_comparison.specs.Overlaps.{differs, ended_in_new, first_differing, fold_differing, trace_kept_by, traces_of_both, with_differing, with_ends}
+use Rattle.run_comparison.specs.Overlaps.{differs, ended_in_new, first_differing, fold_differing, fold_new_differing, trace_kept_by, traces_of_both, with_differing, with_ends}
 
 module _ {X Y : Type 0} (f : X → Y) (p : X → Bool) (n : ℕ) where
   -- the first n that pass, as f tells them
@@ -22,10 +22,6 @@ module _ {X Y : Type 0} (f : X → Y) (p : X → Bool) (n : ℕ) where
 
   long : (xs : List X) → length (map f (take n xs)) ≡ min n (length xs)
   long xs = length-map (take n xs) f ∙ length-take n xs
-    where
-      length-map : {X Y : Type 0} (xs : List X) (f : X → Y) → length (map f xs) ≡ length xs
-      length-map [] f = refl
-      length-map (x ∷ xs) f = ap (λ k. 1 + k) (length-map xs f)
 
   room : (xs : List X) (x : X) → length xs < n → map f (take n xs) ++ f x ∷ [] ≡ map f (take n (xs ++ x ∷ []))
   room xs x l =
@@ -58,7 +54,16 @@ in-a-row : {A B : Type 0} (g : B → A → B) (b : B) (xs ys : List A) → fold 
 in-a-row g b [] ys = refl
 in-a-row g b (x ∷ xs) ys = in-a-row g (g b x) xs ys
 
-pub all_differing : (old new : Traces) → fold_differing old new (fold_differing old new [] (keys_of old.ends)) (ended_in_new old (keys_of new.ends)) ≡ first_differing old new
+-- those that haven't ended in the old run are looked at, one after the other
+of-new : (old new : Traces) (found : List Differing) (traces : List TraceId) → fold_new_differing old new found traces ≡ fold_differing old new found (ended_in_new old traces)
+of-new old new found [] = refl
+of-new old new found (t ∷ ts) = (elim (is_none (end_of old.ends t)) as (λ b. fold_new_differing old new (cond b (with_differing old new found t) found) ts ≡ fold_differing old new found (cond b (t ∷ ended_in_new old ts) (ended_in_new old ts))) [
+  | true ↦ of-new old new (with_differing old new found t) ts
+  | false ↦ of-new old new found ts
+])
+
+pub all_differing : (old new : Traces) → fold_new_differing old new (fold_differing old new [] (keys_of old.ends)) (keys_of new.ends) ≡ first_differing old new
 all_differing old new =
-    in-a-row (with_differing old new) [] (keys_of old.ends) (ended_in_new old (keys_of new.ends))
+    of-new old new (fold_differing old new [] (keys_of old.ends)) (keys_of new.ends)
+    ∙ in-a-row (with_differing old new) [] (keys_of old.ends) (ended_in_new old (keys_of new.ends))
     ∙ all (with_ends old new) (λ trace. differs (trace_kept_by old new trace)) 100 [] (traces_of_both old new)

@@ -1,7 +1,7 @@
 -- Services that get places stand behind those that have one.
--- For the clauses `front` of `place` and `place_all`, and `same` of `make_room`.
-use Rattle.std.proofs.Common.{◌≡◌, ◌∙◌, length, take, sym, ap, arith}
-use Rattle.std.proofs.lemmas.List.{take-take}
+-- For the clauses `front` of `place` and `place_all`, and `same` of `make_room`, and for `truncate`.
+use Rattle.std.proofs.Common.{◌≡◌, ◌∙◌, ℕ, Global, List, String, length, map, string_bytes, take, sym, ap, arith}
+use Rattle.std.proofs.lemmas.List.{take-map, take-take}
 use Rattle.run_comparison.specs.Services.{Services, KeepsFront}
 
 -- what two in a row keep
@@ -16,3 +16,7 @@ front_goes_on first second third h k = record {
 -- without those that came behind, all is as it was
 pub front_back : (old new : Services) → KeepsFront old new → ◌≡◌ {A = Services} (record { names = take (length old.names) new.names; spans = new.spans; beyond = new.beyond }) old
 front_back old new h = λ i. record { names = h.front i; spans = h.spans i; beyond = h.beyond i }
+
+-- the names of those that are kept
+pub names_taken : (n : ℕ) (names : List (String Global)) → map string_bytes (take n names) ≡ take n (map string_bytes names)
+names_taken n names = sym (take-map string_bytes n names)

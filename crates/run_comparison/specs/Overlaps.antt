@@ -108,3 +108,19 @@ with_differing old new found trace = if nat_lt (length found) MOST_DIFFERING && 
 -- these traces more, one after the other
 abbrev pub fold_differing : (old new : Traces) → List Differing → List TraceId → List Differing
 fold_differing old new found traces = fold (with_differing old new) found traces
+
+-- a trace more, where it hasn't ended in the old run
+abbrev pub counted_if_new : (old new : Traces) → Overlap → TraceId → Overlap
+counted_if_new old new overlap trace = if is_none (end_of old.ends trace) then counted_more overlap (trace_kept_by old new trace) else overlap
+
+-- those of these traces that haven't ended in the old run more, one after the other
+abbrev pub fold_new_kept : (old new : Traces) → Overlap → List TraceId → Overlap
+fold_new_kept old new overlap traces = fold (counted_if_new old new) overlap traces
+
+-- a trace more, where it hasn't ended in the old run, the new one alone keeps it, and there is room for one more
+abbrev pub differing_if_new : (old new : Traces) → List Differing → TraceId → List Differing
+differing_if_new old new found trace = if is_none (end_of old.ends trace) then with_differing old new found trace else found
+
+-- those of these traces that haven't ended in the old run more, one after the other
+abbrev pub fold_new_differing : (old new : Traces) → List Differing → List TraceId → List Differing
+fold_new_differing old new found traces = fold (differing_if_new old new) found traces

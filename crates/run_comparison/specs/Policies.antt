@@ -1,5 +1,5 @@
 -- What each policy kept.
-use Rattle.std.specs.Prelude.{ℕ, List, Option, None, Some, fold, slice_get, slice_set}
+use Rattle.std.specs.Prelude.{ℕ, List, [], ◌∷◌, Option, None, Some, slice_get, slice_set}
 use Rattle.run_comparison.specs.Amount.{plus}
 use Rattle.run_comparison.specs.declared.amount.Amount.{Amount}
 
@@ -18,6 +18,11 @@ abbrev pub with_amount : PolicyAmounts → (place : Option ℕ) → Amount → P
 with_amount p None more = record { by_place = p.by_place; without = plus p.without more }
 with_amount p (Some place) more = with_amount_at p place (slice_get p.by_place place) more
 
+-- an amount and others together
+abbrev pub sum_of : Amount → List Amount → Amount
+sum_of sum [] = sum
+sum_of sum (amount ∷ amounts) = sum_of (plus sum amount) amounts
+
 -- what was kept in all
 abbrev pub kept_by_all : PolicyAmounts → Amount
-kept_by_all p = fold plus p.without p.by_place
+kept_by_all p = sum_of p.without p.by_place

@@ -32,27 +32,32 @@ amount_at run place = slice_get run.policies.by_place place
 abbrev pub beside : (run : Run) (first : Bool) (name : List ℕ) → Option Amount
 beside run first name = if first then option_and_then (amount_at run) (place_of run.names name) else None
 
--- the policies of the old run from a place on, each beside the first of its name in the new one, if it is the first
-abbrev pub old_policies : (old new : Run) (place : ℕ) (names : List (List ℕ)) → List PolicyKept
-old_policies old new place [] = []
-old_policies old new place (name ∷ names) =
-    record { name = name; old = amount_at old place; new = beside new (is_first old.names name place) name } ∷ old_policies old new (place + 1) names
+-- the policy of the old run at a place, beside the first of its name in the new one, if it is the first
+abbrev pub old_policy : (old new : Run) (place : ℕ) (name : List ℕ) → PolicyKept
+old_policy old new place name = record { name = name; old = amount_at old place; new = beside new (is_first old.names name place) name }
+
+-- the policies of the old run from a place on, behind others
+abbrev pub with_old_policies : (old new : Run) (place : ℕ) (names : List (List ℕ)) → List PolicyKept → List PolicyKept
+with_old_policies old new place [] rows = rows
+with_old_policies old new place (name ∷ names) rows = with_old_policies old new (place + 1) names (rows ++ old_policy old new place name ∷ [])
 
 -- whether a policy of the new run stands beside none of the old one
 abbrev pub stands_alone : (old new : Run) (place : ℕ) (name : List ℕ) → Bool
 stands_alone old new place name = not (is_first new.names name place) || is_none (place_of old.names name)
 
--- those of the new run from a place on that stand beside none
-abbrev pub new_policies : (old new : Run) (place : ℕ) (names : List (List ℕ)) → List PolicyKept
-new_policies old new place [] = []
-new_policies old new place (name ∷ names) =
-    if stands_alone old new place name
-    then record { name = name; old = None; new = amount_at new place } ∷ new_policies old new (place + 1) names
-    else new_policies old new (place + 1) names
+-- the policy of the new run at a place, behind others, where it stands beside none
+abbrev pub with_new_policy : (old new : Run) (place : ℕ) (name : List ℕ) → List PolicyKept → List PolicyKept
+with_new_policy old new place name rows =
+    if stands_alone old new place name then rows ++ record { name = name; old = None; new = amount_at new place } ∷ [] else rows
 
--- the policies of both
+-- those of the new run from a place on that stand beside none, behind others
+abbrev pub with_new_policies : (old new : Run) (place : ℕ) (names : List (List ℕ)) → List PolicyKept → List PolicyKept
+with_new_policies old new place [] rows = rows
+with_new_policies old new place (name ∷ names) rows = with_new_policies old new (place + 1) names (with_new_policy old new place name rows)
+
+-- the policies of both: those of the old run, and then those of the new one that stand beside none
 abbrev pub policy_rows : (old new : Run) → List PolicyKept
-policy_rows old new = old_policies old new 0 old.names ++ new_policies old new 0 new.names
+policy_rows old new = with_new_policies old new 0 new.names (with_old_policies old new 0 old.names [])
 
 -- ---- services
 
@@ -69,23 +74,28 @@ seen_service row = record { name = row.name.now; old = row.old; new = row.new }
 abbrev pub spans_of : Services → (name : List ℕ) → ℕ
 spans_of s name = option_map_or (λ (place : ℕ). slice_index_or s.spans place 0) (place_of s.names name) 0
 
--- services of the old run from a place on, each beside that of its name in the new one
-abbrev pub old_services : (old new : Services) (place : ℕ) (names : List (List ℕ)) → List ServiceKept
-old_services old new place [] = []
-old_services old new place (name ∷ names) =
-    record { name = name; old = slice_index_or old.spans place 0; new = spans_of new name } ∷ old_services old new (place + 1) names
+-- the service of the old run at a place, beside that of its name in the new one
+abbrev pub old_service : (old new : Services) (place : ℕ) (name : List ℕ) → ServiceKept
+old_service old new place name = record { name = name; old = slice_index_or old.spans place 0; new = spans_of new name }
 
--- those of the new run from a place on that have none in the old one
-abbrev pub new_services : (old new : Services) (place : ℕ) (names : List (List ℕ)) → List ServiceKept
-new_services old new place [] = []
-new_services old new place (name ∷ names) =
-    if is_none (place_of old.names name)
-    then record { name = name; old = 0; new = slice_index_or new.spans place 0 } ∷ new_services old new (place + 1) names
-    else new_services old new (place + 1) names
+-- the services of the old run from a place on, behind others
+abbrev pub with_old_services : (old new : Services) (place : ℕ) (names : List (List ℕ)) → List ServiceKept → List ServiceKept
+with_old_services old new place [] rows = rows
+with_old_services old new place (name ∷ names) rows = with_old_services old new (place + 1) names (rows ++ old_service old new place name ∷ [])
 
--- the services of both
+-- the service of the new run at a place, behind others, where it has none in the old one
+abbrev pub with_new_service : (old new : Services) (place : ℕ) (name : List ℕ) → List ServiceKept → List ServiceKept
+with_new_service old new place name rows =
+    if is_none (place_of old.names name) then rows ++ record { name = name; old = 0; new = slice_index_or new.spans place 0 } ∷ [] else rows
+
+-- those of the new run from a place on that have none in the old one, behind others
+abbrev pub with_new_services : (old new : Services) (place : ℕ) (names : List (List ℕ)) → List ServiceKept → List ServiceKept
+with_new_services old new place [] rows = rows
+with_new_services old new place (name ∷ names) rows = with_new_services old new (place + 1) names (with_new_service old new place name rows)
+
+-- the services of both: those of the old run, and then those of the new one alone
 abbrev pub service_rows : (old new : Services) → List ServiceKept
-service_rows old new = old_services old new 0 old.names ++ new_services old new 0 new.names
+service_rows old new = with_new_services old new 0 new.names (with_old_services old new 0 old.names [])
 
 -- ---- steps
 

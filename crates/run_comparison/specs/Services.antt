@@ -1,12 +1,12 @@
 -- The spans that were kept of each service.
-use Rattle.std.specs.Prelude.{◌≡◌, ◌≤◌, ℕ, ◌+◌, List, [], ◌∷◌, ◌++◌, length, bytes_eq, if◌then◌else◌, nat_lt, Option, None, Some, codes, is_some, replicate, take, unwrap_or}
+use Rattle.std.specs.Prelude.{◌≡◌, ◌≤◌, ℕ, ◌+◌, List, [], ◌∷◌, ◌++◌, length, bytes_eq, if◌then◌else◌, nat_lt, Option, None, Some, codes, is_some, take, unwrap_or}
 use Rattle.otlp_types.specs.declared.arrival.Arrival.{Arrival}
 use Rattle.otlp_types.specs.declared.value.AnyValue.{AnyValue}
 use Rattle.otlp_types.specs.declared.value.AnyValue.TheVariants.{Str}
 use Rattle.otlp_types.specs.declared.value.KeyValue.{KeyValue}
 use Rattle.run_comparison.specs.Amount.{capped}
 use Rattle.run_comparison.specs.Names.{place_of}
-use Rattle.run_comparison.specs.Numbers.{more_at}
+use Rattle.run_comparison.specs.Numbers.{more_at, zeros}
 use Rattle.run_comparison.specs.declared.services.TheConstants.{MOST_SERVICES}
 
 -- ---- the service of a span
@@ -38,13 +38,9 @@ pub record Services : Type 0 where
   pub spans : List ℕ
   pub beyond : ℕ
 
--- no span of any service
-unfoldable pub no_spans : List ℕ
-no_spans = replicate MOST_SERVICES 0
-
 -- no span was kept
 abbrev pub no_services : Services
-no_services = record { names = []; spans = no_spans; beyond = 0 }
+no_services = record { names = []; spans = zeros MOST_SERVICES; beyond = 0 }
 
 -- a service gets a place, if it has none and there is room for one more
 abbrev pub with_place : Services → (name : List ℕ) → Services

@@ -1,7 +1,7 @@
 -- The spans that were kept over time.
-use Rattle.std.specs.Prelude.{ℕ, zero, suc, ◌+◌, ◌-◌, ◌*◌, ◌/◌, ◌==◌, Bool, true, false, List, [], ◌∷◌, length, if◌then◌else◌, nat_lt, min, max, ◌||◌, not, replicate, take, Option, None, Some}
+use Rattle.std.specs.Prelude.{ℕ, zero, suc, ◌+◌, ◌-◌, ◌*◌, ◌/◌, ◌==◌, Bool, true, false, List, [], ◌∷◌, if◌then◌else◌, nat_lt, min, max, ◌||◌, not, take, Option, None, Some}
 use Rattle.run_comparison.specs.Amount.{capped}
-use Rattle.run_comparison.specs.Numbers.{more_at}
+use Rattle.run_comparison.specs.Numbers.{more_at, zeros}
 use Rattle.run_comparison.specs.declared.steps.TheConstants.{LEAST_STEP, MOST_STEPS, DOUBLINGS}
 
 -- whether there was a moment, the earliest and the latest one, the width of a step, and the spans of each step, the
@@ -27,13 +27,9 @@ least_doubling (suc n) from to width = if nat_lt (steps_between from to width) M
 abbrev pub width_for : (from to : ℕ) → ℕ
 width_for from to = least_doubling DOUBLINGS from to LEAST_STEP
 
--- no span in any step
-unfoldable pub no_counts : List ℕ
-no_counts = replicate MOST_STEPS 0
-
 -- nothing was kept
 abbrev pub no_steps : Timeline
-no_steps = record { any = false; from = 0; to = 0; width = LEAST_STEP; counts = no_counts }
+no_steps = record { any = false; from = 0; to = 0; width = LEAST_STEP; counts = zeros MOST_STEPS }
 
 -- the spans of steps of one width, of which the first has this number, in steps of another width, of which the first is
 -- that of a moment
@@ -50,7 +46,7 @@ covering t from to =
     let earliest = min t.from from in
     let latest = max t.to to in
     let wider = width_for earliest latest in
-    record { any = true; from = earliest; to = latest; width = wider; counts = regridded t.counts (t.from / t.width) t.width earliest wider (replicate (length t.counts) 0) }
+    record { any = true; from = earliest; to = latest; width = wider; counts = regridded t.counts (t.from / t.width) t.width earliest wider (zeros MOST_STEPS) }
     )
     else record { any = true; from = from; to = to; width = width_for from to; counts = t.counts }
 

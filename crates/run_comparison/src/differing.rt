@@ -1,7 +1,7 @@
 //! The first traces that one run alone keeps.
 ghost use Rattle.std.specs.Prelude.{◌≡◌, [], IfOk, OnOk};
 ghost use Rattle.std.specs.Map.{keys_of};
-ghost use Rattle.run_comparison.specs.Overlaps.{differs, ended_in_new, first_differing, fold_differing, with_differing, with_ends};
+ghost use Rattle.run_comparison.specs.Overlaps.{differing_if_new, differs, first_differing, fold_differing, fold_new_differing, with_differing, with_ends};
 
 use crate::end::TraceEnd;
 use crate::overlap::{KeptBy, trace_kept_by};
@@ -65,6 +65,21 @@ fn differing_of_old(alloc: Global, old: &Traces, new: &Traces) -> Result<Vec<Dif
     Ok(found)
 }
 
+/// A trace more, where it hasn't ended in the old run. `Err` where memory was refused.
+fn add_if_new(
+    found: &mut Vec<Differing>,
+    old: &Traces,
+    new: &Traces,
+    trace: TraceId,
+) -> Result<(), AllocError>
+    ensures { OnOk result (found.new.items ≡ differing_if_new old.now new.now found.old.items trace) }
+{
+    if old.has(trace) {
+        return Ok(());
+    }
+    add_differing(found, old, new, trace)
+}
+
 /// The first traces that one run alone keeps: those so far, and of those that ended in the new run alone.
 #[tactic(auto, using(crate::proofs::Counted::drop_at))]
 fn differing_of_new(
@@ -72,14 +87,11 @@ fn differing_of_new(
     old: &Traces,
     new: &Traces,
 ) -> Result<Vec<Differing>, AllocError>
-    ensures { IfOk result (λ found. found.items ≡ fold_differing old.now new.now so_far.items (ended_in_new old.now (keys_of new.now.ends))) }
+    ensures { IfOk result (λ found. found.items ≡ fold_new_differing old.now new.now so_far.items (keys_of new.now.ends)) }
 {
     let mut found = so_far;
     for place in 0..new.len() {
-        let trace = new.trace_at(place);
-        if old.end_of(trace).is_none() {
-            add_differing(&mut found, old, new, trace)?;
-        }
+        add_if_new(&mut found, old, new, new.trace_at(place))?;
     }
     Ok(found)
 }

@@ -1,7 +1,7 @@
 //! Which traces are kept by which run.
 ghost use Rattle.std.specs.Prelude.{◌≡◌};
 ghost use Rattle.std.specs.Map.{keys_of};
-ghost use Rattle.run_comparison.specs.Overlaps.{counted_more, ended_in_new, fold_kept, is_kept, kept_by, nobody, overlap_of, trace_kept_by};
+ghost use Rattle.run_comparison.specs.Overlaps.{counted_if_new, counted_more, fold_kept, fold_new_kept, is_kept, kept_by, nobody, overlap_of, trace_kept_by};
 
 use crate::traces::Traces;
 use span_ids::TraceId;
@@ -109,17 +109,24 @@ fn of_old(old: &Traces, new: &Traces) -> Overlap
     overlap
 }
 
+/// One trace more, where it hasn't ended in the old run.
+fn with_if_new(so_far: Overlap, old: &Traces, new: &Traces, trace: TraceId) -> Overlap
+    ensures { result ≡ counted_if_new old.now new.now so_far trace }
+{
+    if old.has(trace) {
+        return so_far;
+    }
+    so_far.with(trace_kept_by(old, new, trace))
+}
+
 /// How many traces are kept by which run, of those so far and those that ended in the new one alone.
 #[tactic(auto, using(crate::proofs::Counted::drop_at))]
 fn with_new(so_far: Overlap, old: &Traces, new: &Traces) -> Overlap
-    ensures { result ≡ fold_kept old.now new.now so_far (ended_in_new old.now (keys_of new.now.ends)) }
+    ensures { result ≡ fold_new_kept old.now new.now so_far (keys_of new.now.ends) }
 {
     let mut overlap = so_far;
     for place in 0..new.len() {
-        let trace = new.trace_at(place);
-        if old.end_of(trace).is_none() {
-            overlap = overlap.with(trace_kept_by(old, new, trace));
-        }
+        overlap = with_if_new(overlap, old, new, new.trace_at(place));
     }
     overlap
 }

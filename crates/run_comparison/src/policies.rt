@@ -1,7 +1,7 @@
 //! What each policy kept.
-ghost use Rattle.std.specs.Prelude.{◌≡◌, IfOk, fold, replicate};
-ghost use Rattle.run_comparison.specs.Amount.{nothing, plus};
-ghost use Rattle.run_comparison.specs.Policies.{kept_by_all, with_amount};
+ghost use Rattle.std.specs.Prelude.{◌≡◌, IfOk, replicate};
+ghost use Rattle.run_comparison.specs.Amount.{nothing};
+ghost use Rattle.run_comparison.specs.Policies.{kept_by_all, sum_of, with_amount};
 
 use crate::amount::Amount;
 use std::alloc::{AllocError, Global};
@@ -24,7 +24,7 @@ impl Model for PolicyAmounts {
 
 /// An amount and others together.
 fn sum_of(first: Amount, others: &[Amount]) -> Amount
-    ensures { result ≡ fold plus first others.now }
+    ensures { result ≡ sum_of first others.now }
 {
     let mut sum = first;
     for amount in others {

@@ -1,6 +1,6 @@
 //! Policies and services of both runs, side by side, and the same steps of time.
-ghost use Rattle.std.specs.Prelude.{◌≡◌, ◌++◌, map, string_bytes, IfOk, OnOk};
-ghost use Rattle.run_comparison.specs.Rows.{amount_at, beside, is_first, new_policies, new_services, old_policies, old_services, policy_rows, same_steps, seen_policy, seen_service, service_rows, stands_alone, covering_those_of};
+ghost use Rattle.std.specs.Prelude.{◌≡◌, [], map, string_bytes, IfOk, OnOk};
+ghost use Rattle.run_comparison.specs.Rows.{amount_at, beside, covering_those_of, is_first, policy_rows, same_steps, seen_policy, seen_service, service_rows, stands_alone, with_new_policy, with_new_service, with_old_policies, with_old_services};
 
 use crate::amount::Amount;
 use crate::kept_run::KeptRun;
@@ -58,15 +58,16 @@ fn old_policies<'a>(
     old: &'a KeptRun,
     new: &'a KeptRun,
 ) -> Result<Vec<PolicyRow<'a>>, AllocError>
-    ensures { IfOk result (λ rows. map seen_policy rows.items ≡ old_policies old.now new.now 0 old.now.names) }
+    ensures { IfOk result (λ rows. map seen_policy rows.items ≡ with_old_policies old.now new.now 0 old.now.names []) }
 {
     let mut rows = Vec::new(alloc);
-    for (place, name) in old.names().iter().enumerate() {
+    let names = old.names();
+    for (place, name) in names.iter().enumerate() {
         let name = name.as_str();
         rows.push(PolicyRow {
             name,
             old: amount_at(old, place),
-            new: beside(new, is_first(old.names(), name, place), name),
+            new: beside(new, is_first(names, name, place), name),
         })?;
     }
     Ok(rows)
@@ -79,23 +80,22 @@ fn stands_alone(old: &KeptRun, new: &KeptRun, place: usize, name: &str) -> bool
     !is_first(new.names(), name, place) || place_of(old.names(), name).is_none()
 }
 
-/// Adds those of the new run that stand beside none.
-fn add_new_policies<'a>(
+/// Adds the policy of the new run at a place, where it stands beside none of the old one.
+fn add_new_policy<'a>(
     rows: &mut Vec<PolicyRow<'a>>,
-    old: &'a KeptRun,
-    new: &'a KeptRun,
+    old: &KeptRun,
+    new: &KeptRun,
+    place: usize,
+    name: &'a str,
 ) -> Result<(), AllocError>
-    ensures { OnOk result (map seen_policy rows.new.items ≡ map seen_policy rows.old.items ++ new_policies old.now new.now 0 new.now.names) }
+    ensures { OnOk result (map seen_policy rows.new.items ≡ with_new_policy old.now new.now place name.now (map seen_policy rows.old.items)) }
 {
-    for (place, name) in new.names().iter().enumerate() {
-        let name = name.as_str();
-        if stands_alone(old, new, place, name) {
-            rows.push(PolicyRow {
-                name,
-                old: None,
-                new: amount_at(new, place),
-            })?;
-        }
+    if stands_alone(old, new, place, name) {
+        rows.push(PolicyRow {
+            name,
+            old: None,
+            new: amount_at(new, place),
+        })?;
     }
     Ok(())
 }
@@ -110,7 +110,10 @@ pub fn policy_rows<'a>(
     ensures { IfOk result (λ rows. map seen_policy rows.items ≡ policy_rows old.now new.now) }
 {
     let mut rows = old_policies(alloc, old, new)?;
-    add_new_policies(&mut rows, old, new)?;
+    let names = new.names();
+    for (place, name) in names.iter().enumerate() {
+        add_new_policy(&mut rows, old, new, place, name.as_str())?;
+    }
     Ok(rows)
 }
 
@@ -120,10 +123,11 @@ fn old_services<'a>(
     old: &'a Services,
     new: &'a Services,
 ) -> Result<Vec<ServiceRow<'a>>, AllocError>
-    ensures { IfOk result (λ rows. map seen_service rows.items ≡ old_services old.now new.now 0 old.now.names) }
+    ensures { IfOk result (λ rows. map seen_service rows.items ≡ with_old_services old.now new.now 0 old.now.names []) }
 {
     let mut rows = Vec::new(alloc);
-    for (place, name) in old.names().iter().enumerate() {
+    let names = old.names();
+    for (place, name) in names.iter().enumerate() {
         rows.push(ServiceRow {
             name: name.as_str(),
             old: old.spans_at(place),
@@ -133,22 +137,22 @@ fn old_services<'a>(
     Ok(rows)
 }
 
-/// Adds those of the new run that have no place in the old one.
-fn add_new_services<'a>(
+/// Adds the service of the new run at a place, where it has none in the old one.
+fn add_new_service<'a>(
     rows: &mut Vec<ServiceRow<'a>>,
-    old: &'a Services,
-    new: &'a Services,
+    old: &Services,
+    new: &Services,
+    place: usize,
+    name: &'a str,
 ) -> Result<(), AllocError>
-    ensures { OnOk result (map seen_service rows.new.items ≡ map seen_service rows.old.items ++ new_services old.now new.now 0 new.now.names) }
+    ensures { OnOk result (map seen_service rows.new.items ≡ with_new_service old.now new.now place name.now (map seen_service rows.old.items)) }
 {
-    for (place, name) in new.names().iter().enumerate() {
-        if place_of(old.names(), name.as_str()).is_none() {
-            rows.push(ServiceRow {
-                name: name.as_str(),
-                old: 0,
-                new: new.spans_at(place),
-            })?;
-        }
+    if place_of(old.names(), name).is_none() {
+        rows.push(ServiceRow {
+            name,
+            old: 0,
+            new: new.spans_at(place),
+        })?;
     }
     Ok(())
 }
@@ -163,7 +167,10 @@ pub fn service_rows<'a>(
     ensures { IfOk result (λ rows. map seen_service rows.items ≡ service_rows old.now new.now) }
 {
     let mut rows = old_services(alloc, old, new)?;
-    add_new_services(&mut rows, old, new)?;
+    let names = new.names();
+    for (place, name) in names.iter().enumerate() {
+        add_new_service(&mut rows, old, new, place, name.as_str())?;
+    }
     Ok(rows)
 }
 

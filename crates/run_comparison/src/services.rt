@@ -4,7 +4,7 @@ ghost use Rattle.run_comparison.specs.Rows.{spans_of};
 ghost use Rattle.run_comparison.specs.Services.{KeepsFront, no_services, with_place, with_span};
 
 use crate::names::place_of;
-use crate::numbers::add_at;
+use crate::numbers::{add_at, zeros};
 use std::alloc::{AllocError, Global};
 use std::marker::Model;
 
@@ -33,13 +33,12 @@ impl Model for Services {
 
 impl Services {
     /// No span was kept. `Err` where memory was refused.
-    #[tactic(auto, unfolding(crate::specs::Services::no_spans))]
     pub fn new(alloc: Global) -> Result<Services, AllocError>
         ensures { IfOk result (λ s. s ≡ no_services) }
     {
         Ok(Services {
             names: Vec::new(alloc),
-            spans: vec![in alloc; 0; MOST_SERVICES]?,
+            spans: zeros(alloc, MOST_SERVICES)?,
             beyond: 0,
         })
     }
@@ -67,6 +66,7 @@ impl Services {
     }
 
     /// Only the first services keep their places.
+    #[tactic(auto, using(crate::proofs::Fronts::names_taken))]
     pub fn truncate(&mut self, len: usize)
         ensures { self.new ≡ record self.old { names = take len self.old.names } }
     {

@@ -1,8 +1,8 @@
 //! The spans that were kept over time.
-ghost use Rattle.std.specs.Prelude.{◌≡◌, ◌<◌, length, replicate, IfOk};
+ghost use Rattle.std.specs.Prelude.{◌≡◌, ◌<◌, length, IfOk};
 ghost use Rattle.run_comparison.specs.Timeline.{begin_of, counts_of, covering, least_doubling, no_steps, range_of, reaching, regridded, steps_between, width_for, with_spans_at};
 
-use crate::numbers::add_at;
+use crate::numbers::{add_at, clear, zeros};
 use std::alloc::{AllocError, Global};
 use std::marker::Model;
 use std::mem;
@@ -82,18 +82,12 @@ pub fn width_for(from: u64, to: u64) -> u64
     least_doubling(DOUBLINGS, from, to, LEAST_STEP)
 }
 
-/// No number is left.
-fn clear(numbers: &mut [u64])
-    ensures { numbers.new ≡ replicate (length numbers.old) 0 }
-{
-    numbers.fill(0);
-}
-
 /// The spans of steps of one width, of which the first has this number, go into steps of another width, the first of
 /// which is that of a moment.
 fn regrid(earlier: &[u64], first: u64, width: u64, from: u64, wider: u64, counts: &mut [u64])
     requires { 0 < wider }
-    ensures { counts.new ≡ regridded earlier.now first width from wider counts.old }
+    ensures counts { counts.new ≡ regridded earlier.now first width from wider counts.old }
+    ensures long { length counts.new ≡ length counts.old }
 {
     let mut number = first;
     for spans in earlier {
@@ -105,12 +99,11 @@ fn regrid(earlier: &[u64], first: u64, width: u64, from: u64, wider: u64, counts
 
 impl Steps {
     /// No span was kept. `Err` where memory was refused.
-    #[tactic(auto, unfolding(crate::specs::Timeline::no_counts))]
     pub fn new(alloc: Global) -> Result<Steps, AllocError>
         ensures { IfOk result (λ s. s ≡ no_steps) }
     {
-        let counts = vec![in alloc; 0; MOST_STEPS]?;
-        let spare = vec![in alloc; 0; MOST_STEPS]?;
+        let counts = zeros(alloc, MOST_STEPS)?;
+        let spare = zeros(alloc, MOST_STEPS)?;
         Ok(Steps {
             any: false,
             from: 0,
@@ -125,9 +118,9 @@ impl Steps {
     pub fn try_clone(&self, alloc: Global) -> Result<Steps, AllocError>
         ensures { IfOk result (λ s. s ≡ self.now) }
     {
-        let mut counts = vec![in alloc; 0; MOST_STEPS]?;
+        let mut counts = zeros(alloc, MOST_STEPS)?;
         counts.copy_from_slice(&self.counts);
-        let spare = vec![in alloc; 0; MOST_STEPS]?;
+        let spare = zeros(alloc, MOST_STEPS)?;
         Ok(Steps {
             any: self.any,
             from: self.from,

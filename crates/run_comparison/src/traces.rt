@@ -1,5 +1,5 @@
 //! The last end of each trace.
-ghost use Rattle.std.specs.Prelude.{◌≡◌, [], IfOk, OnOk, OnErr, option_copied, ◌<◌, length, slice_get, Some};
+ghost use Rattle.std.specs.Prelude.{◌≡◌, [], IfOk, OnOk, OnErr, is_none, not, option_copied, ◌<◌, length, slice_get, Some};
 ghost use Rattle.std.specs.Map.{keys_of};
 ghost use Rattle.run_comparison.specs.Ends.{end_of, with_end};
 
@@ -43,6 +43,13 @@ impl Traces {
         ensures { option_copied result ≡ end_of self.now.ends trace }
     {
         self.ends.get(&trace)
+    }
+
+    /// Whether the last end of a trace stands here.
+    pub fn has(&self, trace: TraceId) -> bool
+        ensures { result ≡ not (is_none (end_of self.now.ends trace)) }
+    {
+        self.ends.contains_key(&trace)
     }
 
     /// Of how many traces the last end stands here.
