@@ -8,6 +8,7 @@
 #![tactic(auto)]
 
 mod asking;
+mod comparing;
 mod configuration;
 mod outcome;
 mod replay;
@@ -15,7 +16,8 @@ mod showing;
 mod surroundings;
 mod validating;
 
-pub use asking::{Command, HELP, VERSION, asked};
+pub use asking::{Command, Form, HELP, VERSION, asked};
+pub use comparing::compare_by;
 pub use configuration::{
     FileFault, MAX_CONFIG_LEN, ReadFault, config_in, config_of, read_file, text_in,
 };

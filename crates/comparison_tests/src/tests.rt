@@ -1,0 +1,3 @@
+//! The tests, by what they test.
+mod runs;
+mod texts;

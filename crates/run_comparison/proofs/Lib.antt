@@ -1,0 +1,4 @@
+pub mod Counted
+pub mod Differs
+pub mod Fronts
+pub mod Widths

@@ -1,0 +1,10 @@
+pub mod Amount
+pub mod Ends
+pub mod Names
+pub mod Numbers
+pub mod Overlaps
+pub mod Policies
+pub mod Rows
+pub mod Run
+pub mod Services
+pub mod Timeline
