@@ -11,6 +11,7 @@ mod asking;
 mod comparing;
 mod configuration;
 mod outcome;
+mod progress;
 mod replay;
 mod showing;
 mod surroundings;
@@ -22,6 +23,7 @@ pub use configuration::{
     FileFault, MAX_CONFIG_LEN, ReadFault, config_in, config_of, read_file, text_in,
 };
 pub use outcome::{Outcome, TEXT_ROOM, finish, without_memory};
+pub use progress::Progress;
 pub use replay::replay_by;
 pub use showing::show_by;
 pub use surroundings::Surroundings;
