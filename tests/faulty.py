@@ -6,7 +6,7 @@ line on standard output.
 
 The lines are worked out by hand from docs/FAULTS.md and docs/CONFIGURATION.md, the names of keys and types from the definitions (tests/tables.py): a line
 for each fault, first those of keys and values in the order of those tables (the keys that there aren't first), then those of what they give, where a value with a fault counts as its key's default, and a
-policy's list that isn't there as empty; and behind the faults a line for each address that can't be one.
+policy's list that isn't there as empty; and behind the faults a line for each address that can't be one, and for each path that is that of other lines.
 """
 import json
 import sys
@@ -107,6 +107,12 @@ ROWS = [
         NO_BACKEND,
     ]),
     ("other addresses that may be one", f"admin = \"unix:{'a' * 103}\"\nmetrics = \"\"\nexport = {{ endpoint = \"http://[::1]:1/\" }}\n{POLICIES}", []),
+    ("files of others", f"output = \"a\"\ndecisions = \"a\"\nrecord = \"a\"\n{POLICIES}", [
+        "decisions: no file of its own: the output has it (cannot write)",
+        "record: no file of its own: the output has it (cannot write)",
+    ]),
+    ("the file of decisions for the record", f"output = \"a\"\ndecisions = \"b\"\nrecord = \"b\"\n{POLICIES}", ["record: no file of its own: the decisions have it (cannot write)"]),
+    ("files of their own", f"output = \"a\"\ndecisions = \"b\"\nrecord = \"c\"\n{POLICIES}", []),
     ("addresses behind faults", f"listen = \"x\"\nlanes = 0\n{POLICIES}", ["lanes: 0 is not from 1 to 64 (fault 5)", NO_LISTENER]),
     ("addresses of another type", f"listen = 1\nadmin = true\n{POLICIES}", ["listen: a text is wanted (fault 4)", "admin: a text is wanted (fault 4)"]),
     ("a key of two lines", f"\"a\\nb\" = 1\n{POLICIES}", ['"a\\nb": no such key (fault 2)']),

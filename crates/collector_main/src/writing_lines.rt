@@ -57,6 +57,16 @@ fn file_of(config: &Config, lines: LinesOf) -> (&str, u64) {
     (path, mebibytes.saturating_mul(MEBIBYTE))
 }
 
+/// Whether the path for such lines is that of the output, or that for the lines of decisions (D-410).
+fn has_file_of_others(config: &Config, lines: LinesOf) -> bool {
+    let (path, _longest) = file_of(config, lines);
+    let is_output = path == config.output.as_str();
+    match lines {
+        LinesOf::Decisions => is_output,
+        LinesOf::Record => is_output || path == config.decisions.as_str(),
+    }
+}
+
 /// Starts what writes such lines, where the configuration names a file for them. An error, which is said: it can't be opened.
 // The thread opens files, so all that the runtime has of these must be free to go there, folders as well (D-387).
 fn opened_lines<
@@ -103,6 +113,9 @@ fn writer_of<
 where
     T::Dir: Send + 'static,
 {
+    if has_file_of_others(config, lines) {
+        return Err(io::ErrorKind::InvalidInput.into());
+    }
     let (path, longest) = file_of(config, lines);
     let path = String::from_str(alloc, path)?;
     // As many as of the output.

@@ -4,8 +4,8 @@ use Rattle.std.proofs.Common.{◌≡◌, ℕ, true, false, [], ◌∷◌, ◌++�
 use Rattle.toml.specs.Data.{no_members, member, string, integer, table}
 use Rattle.config_findings.specs.Addresses.{is_address, is_backend}
 use Rattle.config_findings.specs.AddressFindings.{findings_in, door_fault, said_of, document_addresses}
-use Rattle.config_findings.specs.declared.address_findings.AddressFault.TheVariants.{NoListener, NoDoor, PathAlone, NoPath, LongPath, NoBackend}
-use Rattle.config_findings.specs.declared.address_findings.AddressKey.TheVariants.{Listen, Admin, Metrics, Endpoint}
+use Rattle.config_findings.specs.declared.address_findings.AddressFault.TheVariants.{NoListener, NoDoor, PathAlone, NoPath, LongPath, NoBackend, OutputToo, DecisionsToo}
+use Rattle.config_findings.specs.declared.address_findings.AddressKey.TheVariants.{Listen, Admin, Metrics, Endpoint, Decisions, Record}
 
 addresses : map is_address (codes "127.0.0.1:4318" ∷ codes "localhost:65535" ∷ codes ":4318" ∷ codes ":0" ∷ codes "[::1]:80" ∷ codes "[fe80::1%2]:80" ∷ codes "::1:80" ∷ codes "fe80::1%eth0:80" ∷ codes "a_b.c-d:00080" ∷ [])
     ≡ true ∷ true ∷ true ∷ true ∷ true ∷ true ∷ true ∷ true ∷ true ∷ []
@@ -44,10 +44,26 @@ some_addresses = refl
 no_texts : findings_in (member (codes "admin") (integer (pos 1)) (member (codes "export") (table (member (codes "endpoint") (string (codes "h")) no_members)) no_members)) ≡ []
 no_texts = refl
 
+-- paths of one file, of two, of three; none is none, and other keys are looked at first
+one_file : findings_in (member (codes "decisions") (string (codes "a")) (member (codes "output") (string (codes "a")) (member (codes "record") (string (codes "a")) no_members)))
+    ≡ record { key = Decisions; fault = OutputToo } ∷ record { key = Record; fault = OutputToo } ∷ []
+one_file = refl
+
+two_files : findings_in (member (codes "decisions") (string (codes "b")) (member (codes "listen") (string (codes "x")) (member (codes "output") (string (codes "a")) (member (codes "record") (string (codes "b")) no_members))))
+    ≡ record { key = Listen; fault = NoListener } ∷ record { key = Record; fault = DecisionsToo } ∷ []
+two_files = refl
+
+three_files : findings_in (member (codes "decisions") (string (codes "a/b")) (member (codes "output") (string (codes "a")) (member (codes "record") (string (codes "b")) no_members))) ≡ []
+three_files = refl
+
+no_files : findings_in (member (codes "decisions") (string []) (member (codes "output") (string []) (member (codes "record") (string []) no_members))) ≡ []
+no_files = refl
+
 no_document : document_addresses None ≡ []
 no_document = refl
 
-said : map said_of (record { key = Listen; fault = NoListener } ∷ record { key = Endpoint; fault = NoBackend } ∷ [])
+said : map said_of (record { key = Listen; fault = NoListener } ∷ record { key = Endpoint; fault = NoBackend } ∷ record { key = Decisions; fault = OutputToo } ∷ record { key = Record; fault = DecisionsToo } ∷ [])
     ≡ codes "listen: no address: HOST:PORT, [IPV6]:PORT or :PORT is wanted (cannot listen)"
-    ∷ codes "export.endpoint: no address: HOST:PORT, with a port from 1 to 65535, is wanted behind http:// (cannot send)" ∷ []
+    ∷ codes "export.endpoint: no address: HOST:PORT, with a port from 1 to 65535, is wanted behind http:// (cannot send)"
+    ∷ codes "decisions: no file of its own: the output has it (cannot write)" ∷ codes "record: no file of its own: the decisions have it (cannot write)" ∷ []
 said = refl

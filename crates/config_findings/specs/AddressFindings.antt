@@ -1,23 +1,25 @@
--- What is told of addresses at which a collector can't listen, or to which it can't send: `tsc validate` tells it behind
--- the faults.
-use Rattle.std.specs.Prelude.{ℕ, Bool, ◌&&◌, ◌||◌, ◌==◌, List, [], ◌∷◌, ◌++◌, length, take, drop, codes, Option, Some, None, if◌then◌else◌, nat_lt, nat_le}
+-- What is told of addresses at which a collector can't listen, or to which it can't send, and of paths of files that it
+-- can't write: `tsc validate` tells it behind the faults.
+use Rattle.std.specs.Prelude.{ℕ, Bool, false, ◌&&◌, ◌||◌, ◌==◌, List, [], ◌∷◌, ◌++◌, length, take, drop, codes, Option, Some, None, if◌then◌else◌, nat_lt, nat_le}
 use Rattle.std.specs.Str.{bytes_eq}
 use Rattle.toml.specs.Data.{Data, string, table, Members, get_member}
 use Rattle.toml.specs.Parse.{parse_document}
 use Rattle.config_faults.specs.Exports.{is_endpoint}
 use Rattle.config_findings.specs.Addresses.{is_address, is_backend}
 use Rattle.config_findings.specs.declared.address_findings.AddressFault.{AddressFault}
-use Rattle.config_findings.specs.declared.address_findings.AddressFault.TheVariants.{NoListener, NoDoor, PathAlone, NoPath, LongPath, NoBackend}
+use Rattle.config_findings.specs.declared.address_findings.AddressFault.TheVariants.{NoListener, NoDoor, PathAlone, NoPath, LongPath, NoBackend, OutputToo, DecisionsToo}
 use Rattle.config_findings.specs.declared.address_findings.AddressKey.{AddressKey}
-use Rattle.config_findings.specs.declared.address_findings.AddressKey.TheVariants.{Listen, Admin, Metrics, Endpoint}
+use Rattle.config_findings.specs.declared.address_findings.AddressKey.TheVariants.{Listen, Admin, Metrics, Endpoint, Decisions, Record}
 use Rattle.config_findings.specs.declared.address_findings.AddressFinding.{AddressFinding}
 
--- a key of addresses, behind its table
+-- a key of addresses and paths, behind its table
 abbrev pub key_name : AddressKey → List ℕ
 key_name Listen = codes "listen"
 key_name Admin = codes "admin"
 key_name Metrics = codes "metrics"
 key_name Endpoint = codes "export.endpoint"
+key_name Decisions = codes "decisions"
+key_name Record = codes "record"
 
 -- what would be right, and what can't be done
 abbrev pub fault_text : AddressFault → List ℕ
@@ -27,6 +29,8 @@ fault_text PathAlone = codes "no address: a socket's path begins with unix: (can
 fault_text NoPath = codes "no address: no path stands behind unix: (cannot listen)"
 fault_text LongPath = codes "no address: a socket's path has at most 103 bytes (cannot listen)"
 fault_text NoBackend = codes "no address: HOST:PORT, with a port from 1 to 65535, is wanted behind http:// (cannot send)"
+fault_text OutputToo = codes "no file of its own: the output has it (cannot write)"
+fault_text DecisionsToo = codes "no file of its own: the decisions have it (cannot write)"
 
 -- what is said of a finding
 abbrev pub said_of : AddressFinding → List ℕ
@@ -76,10 +80,34 @@ abbrev pub at_export : Option Data → Option AddressFault
 at_export (Some (table settings)) = at_text backend_fault (get_member (codes "endpoint") settings)
 at_export _ = None
 
+-- the path at a key: nothing where no text stands there
+abbrev pub path_at : Option Data → List ℕ
+path_at (Some (string text)) = text
+path_at _ = []
+
+-- whether a path is that of another's file; no path is of none
+abbrev pub is_same_path : (path other : List ℕ) → Bool
+is_same_path [] other = false
+is_same_path (b ∷ rest) other = bytes_eq (b ∷ rest) other
+
+-- why the lines of decisions can't be written, and why the record of what came can't be
+abbrev pub decisions_fault : (output decisions : List ℕ) → Option AddressFault
+decisions_fault output decisions = if is_same_path decisions output then Some OutputToo else None
+
+abbrev pub record_fault : (output decisions came : List ℕ) → Option AddressFault
+record_fault output decisions came = if is_same_path came output then Some OutputToo else if is_same_path came decisions then Some DecisionsToo else None
+
 -- a finding, where there is a fault
 abbrev pub listed : AddressKey → Option AddressFault → List AddressFinding
 listed key None = []
 listed key (Some fault) = record { key = key; fault = fault } ∷ []
+
+-- what is found of the paths of files
+abbrev pub paths_in : Members → List AddressFinding
+paths_in members =
+    let output = path_at (get_member (codes "output") members) in
+    let decisions = path_at (get_member (codes "decisions") members) in
+    listed Decisions (decisions_fault output decisions) ++ listed Record (record_fault output decisions (path_at (get_member (codes "record") members)))
 
 -- what is found of a table
 abbrev pub findings_in : Members → List AddressFinding
@@ -87,7 +115,8 @@ findings_in members =
     listed Listen (at_text listener_fault (get_member (codes "listen") members))
     ++ (listed Admin (at_text door_fault (get_member (codes "admin") members))
     ++ (listed Metrics (at_text door_fault (get_member (codes "metrics") members))
-    ++ listed Endpoint (at_export (get_member (codes "export") members))))
+    ++ (listed Endpoint (at_export (get_member (codes "export") members))
+    ++ paths_in members)))
 
 -- what is found of a document, where there is one
 abbrev pub document_addresses : Option Members → List AddressFinding

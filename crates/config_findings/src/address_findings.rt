@@ -1,4 +1,5 @@
-//! What is told of addresses at which a collector can't listen, or to which it can't send.
+//! What is told of addresses at which a collector can't listen, or to which it can't send, and of paths of files that it
+//! can't write.
 ghost use Rattle.std.specs.Prelude.{◌≡◌, ◌++◌, ◌≤◌, IfOk, OnOk, Some, length, take, drop, codes, string_bytes};
 ghost use Rattle.std.specs.Str.{bytes_eq};
 ghost use Rattle.toml.specs.Data.{get_member};
@@ -14,7 +15,7 @@ use toml::{Table, Value};
 /// 107 (unix(7)).
 const LONGEST_PATH: usize = 103;
 
-/// The keys of addresses.
+/// The keys of addresses and of paths.
 #[derive(Clone, Copy, PartialEq, Eq)]
 pub enum AddressKey {
     Listen,
@@ -22,6 +23,8 @@ pub enum AddressKey {
     Metrics,
     /// `endpoint` of `export`.
     Endpoint,
+    Decisions,
+    Record,
 }
 
 impl AddressKey {
@@ -34,11 +37,13 @@ impl AddressKey {
             AddressKey::Admin => "admin",
             AddressKey::Metrics => "metrics",
             AddressKey::Endpoint => "export.endpoint",
+            AddressKey::Decisions => "decisions",
+            AddressKey::Record => "record",
         }
     }
 }
 
-/// Why an address can't be one.
+/// Why an address or a path can't be one.
 #[derive(Clone, Copy, PartialEq, Eq)]
 pub enum AddressFault {
     /// Requests can't be taken there.
@@ -53,6 +58,10 @@ pub enum AddressFault {
     LongPath,
     /// Lines can't be sent there.
     NoBackend,
+    /// The lines that are kept go to the same file.
+    OutputToo,
+    /// The lines of decisions go to the same file.
+    DecisionsToo,
 }
 
 impl AddressFault {
@@ -77,11 +86,15 @@ impl AddressFault {
             AddressFault::NoBackend => {
                 "no address: HOST:PORT, with a port from 1 to 65535, is wanted behind http:// (cannot send)"
             }
+            AddressFault::OutputToo => "no file of its own: the output has it (cannot write)",
+            AddressFault::DecisionsToo => {
+                "no file of its own: the decisions have it (cannot write)"
+            }
         }
     }
 }
 
-/// An address that can't be one, whatever the machine has.
+/// An address or a path that can't be one, whatever the machine has.
 #[derive(Clone, Copy)]
 pub struct AddressFinding {
     /// Where it stands.
@@ -101,14 +114,72 @@ impl AddressFinding {
     }
 }
 
-/// Adds what is found of the addresses of a table.
+/// Adds what is found of the addresses and paths of a table.
 pub fn add_addresses(table: &Table, findings: &mut Vec<AddressFinding>) -> Result<(), AllocError>
     ensures { OnOk result (findings.new.items ≡ findings.old.items ++ spec.findings_in (table_view table.now)) }
 {
     add(findings, AddressKey::Listen, listen_fault(table))?;
     add(findings, AddressKey::Admin, door_fault(table, "admin"))?;
     add(findings, AddressKey::Metrics, door_fault(table, "metrics"))?;
-    add(findings, AddressKey::Endpoint, export_fault(table))
+    add(findings, AddressKey::Endpoint, export_fault(table))?;
+    add_paths(table, findings)
+}
+
+/// Adds what is found of the paths of files.
+fn add_paths(table: &Table, findings: &mut Vec<AddressFinding>) -> Result<(), AllocError>
+    ensures { OnOk result (findings.new.items ≡ findings.old.items ++ spec.paths_in (table_view table.now)) }
+{
+    let output = path_at(table, "output");
+    let decisions = path_at(table, "decisions");
+    let came = path_at(table, "record");
+    let fault = decisions_fault(output, decisions);
+    add(findings, AddressKey::Decisions, fault)?;
+    let fault = record_fault(output, decisions, came);
+    add(findings, AddressKey::Record, fault)
+}
+
+/// The path at a key: nothing where no text stands there.
+fn path_at<'t>(table: &'t Table, key: &str) -> &'t [u8]
+    ensures { result.now ≡ spec.path_at (get_member key.now (table_view table.now)) }
+{
+    match member(table, key) {
+        Some(Value::String(text)) => text.as_bytes(),
+        _ => b"",
+    }
+}
+
+/// Whether a path is that of another's file; no path is of none.
+fn is_same_path(path: &[u8], other: &[u8]) -> bool
+    ensures { result ≡ spec.is_same_path path.now other.now }
+{
+    match path {
+        [] => false,
+        [_, ..] => path == other,
+    }
+}
+
+/// Why the lines of decisions can't be written.
+fn decisions_fault(output: &[u8], decisions: &[u8]) -> Option<AddressFault>
+    ensures { result ≡ spec.decisions_fault output.now decisions.now }
+{
+    if is_same_path(decisions, output) {
+        Some(AddressFault::OutputToo)
+    } else {
+        None
+    }
+}
+
+/// Why the record of what came can't be written.
+fn record_fault(output: &[u8], decisions: &[u8], came: &[u8]) -> Option<AddressFault>
+    ensures { result ≡ spec.record_fault output.now decisions.now came.now }
+{
+    if is_same_path(came, output) {
+        Some(AddressFault::OutputToo)
+    } else if is_same_path(came, decisions) {
+        Some(AddressFault::DecisionsToo)
+    } else {
+        None
+    }
 }
 
 /// Adds a finding, where there is a fault.
