@@ -10,7 +10,7 @@ use Rattle.run_comparison.specs.declared.differing.Differing.{Differing}
 use Rattle.run_comparison.specs.declared.end.TraceEnd.{TraceEnd}
 use Rattle.run_comparison.specs.Ends.{policy_of}
 use Rattle.run_comparison.specs.Overlaps.{first_differing}
-use Rattle.run_comparison.specs.Rows.{PolicyKept, ServiceKept, policy_rows, same_steps, service_rows}
+use Rattle.run_comparison.specs.Rows.{PolicyKept, policy_rows, same_steps, service_rows}
 use Rattle.run_comparison.specs.Run.{Run}
 use Rattle.run_comparison.specs.Timeline.{Timeline, counts_of}
 use Rattle.comparison_text.specs.Value.{amount_or_null, array_of, comparison_value, differing_value, end_or_null, end_value, ended_cause, items_of, over_time_value, policy_value, service_value}

@@ -1,5 +1,5 @@
 -- A text of JSON in a script, byte by byte, and the page around it. For the contracts of `put_script` and `put_page`.
-use Rattle.std.proofs.Common.{◌≡◌, ◌<◌, ◌+◌, ◌++◌, ◌∷◌, ◌∙◌, ℕ, suc, List, ap, append_assoc, arith, drop, drop-cons, get_or, length, sym}
+use Rattle.std.proofs.Common.{◌≡◌, ◌<◌, ◌+◌, ◌++◌, ◌∙◌, ℕ, suc, List, ap, append_assoc, arith, drop, drop-cons, get_or, length, sym}
 use Rattle.std.specs.Prelude.{Err, Ok, OnOk, Result}
 use Rattle.comparison_text.specs.Page.{in_script, page_of, script_byte}
 

@@ -1,8 +1,8 @@
-use Rattle.std.proofs.Common.{◌≡◌, ◌∙◌, List, ap, map}
+use Rattle.std.proofs.Common.{◌∙◌, List, ap, map}
 use Rattle.json.specs.Json.{Json}
 use Rattle.run_comparison.specs.declared.differing.Differing.{Differing}
 use Rattle.run_comparison.specs.Overlaps.{first_differing, overlap_of}
-use Rattle.run_comparison.specs.Rows.{policy_rows, same_steps, seen_policy, seen_service, service_rows}
+use Rattle.run_comparison.specs.Rows.{same_steps, seen_policy, seen_service, service_rows}
 use Rattle.run_comparison.specs.Timeline.{Timeline}
 use Rattle.comparison_text.specs.Value.{array_of, differing_value, over_time_value, overlap_value, policy_value, service_value}
 use Rattle.comparison_text.proofs.Seen.{array-seen, at-both}
