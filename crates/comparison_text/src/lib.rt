@@ -6,10 +6,13 @@
 #![tactic(auto)]
 
 mod comparison;
+mod ends;
 mod json_text;
+mod kept;
 mod page;
 mod page_text;
 mod plain_text;
+mod putting;
 mod words;
 
 pub use comparison::About;

@@ -2,7 +2,7 @@
 ghost use Rattle.std.specs.Prelude.{◌≡◌, OnErr};
 
 use crate::comparison::About;
-use crate::words::{cause_word, verdict_word};
+use crate::words::{ended_cause, ended_word};
 use run_comparison::{
     Amount, Differing, KeptRun, Overlap, PolicyRow, ServiceRow, TraceEnd, first_differing,
     overlap_of, policy_rows, same_steps, service_rows,
@@ -210,13 +210,13 @@ fn put_end(text: &mut String, end: &Option<TraceEnd>, names: &[String]) -> Resul
     let Some(end) = end else {
         return write!(text, "never ended\n");
     };
-    let word = verdict_word(end.how);
+    let word = ended_word(end.how);
     write!(text, "{word}")?;
     if let Some(name) = end.policy(names) {
         write!(text, " by ")?;
         put_name(text, name)?;
     }
-    if let Some(cause) = cause_word(end.how) {
+    if let Some(cause) = ended_cause(end.how) {
         write!(text, " ({cause})")?;
     }
     let (spans, moment) = (end.spans, end.moment);

@@ -1,0 +1,6 @@
+pub mod Appended
+pub mod Back
+pub mod InOrder
+pub mod Rows
+pub mod Script
+pub mod Seen
