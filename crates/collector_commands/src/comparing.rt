@@ -1,5 +1,5 @@
 //! A script is run by two configurations, and what each keeps is compared.
-ghost use Rattle.std.specs.Prelude.{List, ℕ};
+ghost use Rattle.std.specs.Prelude.{List, Option, ℕ};
 ghost use Rattle.collector_commands.specs.Configuration.{file_of};
 ghost use Rattle.collector_commands.specs.Courses.{Compares, IsKeptBack, IsTold};
 

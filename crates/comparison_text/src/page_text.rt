@@ -5,7 +5,7 @@ pub(crate) const BEFORE: &str = "<!doctype html>\n\
     <html lang=\"en\">\n\
     <head>\n\
     <meta charset=\"utf-8\">\n\
-    <meta http-equiv=\"Content-Security-Policy\" content=\"default-src 'none'; script-src 'sha256-sJCNj8OWHHgzdpM+F1meomWvzdYXc9/58udZLNFmFvI='; style-src 'sha256-MYjGq/0nic8xdLGuD8nrYmRpDeeXOUtoL8pEoNLvQGg='; img-src data:; base-uri 'none'; form-action 'none'\">\n\
+    <meta http-equiv=\"Content-Security-Policy\" content=\"default-src 'none'; script-src 'sha256-fTEcMvo/W13amXMZYC94zziwIKdZUJ9MHXGZM/9ht68='; style-src 'sha256-MYjGq/0nic8xdLGuD8nrYmRpDeeXOUtoL8pEoNLvQGg='; img-src data:; base-uri 'none'; form-action 'none'\">\n\
     <meta name=\"viewport\" content=\"width=device-width, initial-scale=1\">\n\
     <meta name=\"color-scheme\" content=\"light dark\">\n\
     <title>tsc compare</title>\n\
@@ -226,7 +226,7 @@ pub(crate) const BEHIND: &str = "\n\
     \tlabel(0, 12, `all ${count(all)} traces`, \"start\");\n\
     \trect(0, any / all, 18, 22, \"--both\");\n\
     \trect(any / all, none / all, 18, 22, \"--none\");\n\
-    \tlabel(Math.min(width, x(any / all) + 8), 33, `kept by neither: ${count(none)} (${percent(none / all)})`, \"start\", \"strong\");\n\
+    \tlabel(width, 12, `kept by neither: ${count(none)} (${percent(none / all)})`, \"end\", \"strong\");\n\
     \tparts.push(draw(\"path\", { d: `M0 41 L0 76 L${width - 1} 76 L${x(any / all)} 41Z`, fill: \"var(--faint)\" }));\n\
     \tlabel(8, 62, `kept by at least one: ${count(any)} (${percent(any / all)}), drawn out`, \"start\");\n\
     \n\
