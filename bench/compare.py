@@ -1,10 +1,11 @@
 #!/usr/bin/env python3
-"""Times `tsc compare` over a long script beside the two replays that it stands for, and holds its numbers against their lines: compare.py PROGRAM [SPANS]
+"""Times `tsc compare` over a long script beside the two replays that it stands for, and holds its numbers against their lines: compare.py PROGRAM
+[SPANS [SCRIPT]]
 
 The script has SPANS (10,000,000 unless said) small spans, 100 a request over eight connections, of traces of 3 to 8 spans that are spread over some seconds, so
 that a few come late; a hundredth of the traces have an error. Both configurations are written here. Of each run it tells the time by the clock, of a
 processor, and the most memory; then how many times that of both replays the comparison took, and whether kept spans, traces and bytes are those of the lines.
-The script takes some 200 bytes a span in a folder for the time being. No part of the gate; the program must be the proved one."""
+The script takes some 180 bytes a span: in SCRIPT, where it is made unless it is there, or else in a folder for the time being. No part of the gate; the program must be the proved one."""
 import json
 import os
 import random
@@ -27,9 +28,9 @@ status_code = { status_codes = ["ERROR"] }
 [[policies]]
 name = "slow"
 type = "latency"
-latency = { threshold_ms = 2000 }
+latency = { threshold_ms = 5000 }
 """
-NEW = OLD.replace("threshold_ms = 2000", "threshold_ms = 1500") + """
+NEW = OLD.replace("threshold_ms = 5000", "threshold_ms = 4000") + """
 [[policies]]
 name = "some"
 type = "probabilistic"
@@ -102,8 +103,9 @@ def main():
     """Makes the script, runs all three, and tells what came of it."""
     program, spans = sys.argv[1], int(sys.argv[2]) if len(sys.argv) > 2 else 10_000_000
     with tempfile.TemporaryDirectory(dir=os.environ.get("TMPDIR")) as folder:
-        script = Path(folder) / "script.txt"
-        write_script(script, spans)
+        script = Path(sys.argv[3]) if len(sys.argv) > 3 else Path(folder) / "script.txt"
+        if not script.exists():
+            write_script(script, spans)
         print(f"{spans} spans, {script.stat().st_size / 2**20:.0f} MiB", flush=True)
         paths, took, kept = [], [], []
         for name, text in (("old", OLD), ("new", NEW)):
