@@ -13,6 +13,7 @@ use Rattle.collector_commands.specs.Outcomes.{outcome_of}
 use Rattle.collector_commands.specs.Configuration.{FileFails, IsConfigOf}
 use Rattle.collector_commands.specs.declared.configuration.FileFault.{FileFault}
 use Rattle.config_shards.specs.Shards.{settings_by}
+use Rattle.script_session.specs.Comparing.{BothPlayed}
 use Rattle.script_session.specs.Replay.{ReplayRun, RunEnds}
 use Rattle.tsc_script.specs.Reads.{KnownReader}
 
@@ -106,12 +107,15 @@ Replays course NoMemory = (FileFails course.file NoMemory × NothingDone course)
 Replays course outcome = RanTo course outcome
 
 -- how an outcome arises where a comparison is asked for, by what was read from the second configuration's file: one of
--- the files gives no configuration; or what both keep is shown; or something kept the script from its end. Nothing is
--- written before the last text.
+-- the files gives no configuration; or both do, and the script was read to its end, and led each run to a report; or
+-- something kept it from its end. Nothing is written before the last text.
 abbrev pub Compares : Course → (new_file : Result (List ℕ) FileFault) → Outcome → Type 0
 Compares course new_file Unreadable = (FileFails course.file Unreadable ⊎ FileFails new_file Unreadable) × NothingDone course
 Compares course new_file (Configuration fault) = (FileFails course.file (Configuration fault) ⊎ FileFails new_file (Configuration fault)) × NothingDone course
-Compares course new_file (Shown text) = course.taken_after ≡ course.taken
+Compares course new_file (Shown text) =
+    ((old new : Config) × IsConfigOf course.file old × IsConfigOf new_file new
+    × (old_report new_report : Report) × BothPlayed old new course.unread course.unread_after old_report new_report)
+    × (course.taken_after ≡ course.taken)
 Compares course new_file (Script line) = course.taken_after ≡ course.taken
 Compares course new_file NoMemory = course.taken_after ≡ course.taken
 Compares course new_file CounterOverflow = course.taken_after ≡ course.taken
