@@ -111,8 +111,7 @@ def release():
 
 def commands():
     """The words of `tsc help`: each command with its arguments, and what it does."""
-    found = re.findall(r"^  tsc (\S+(?: [A-Z]+)*) {2,}(.*(?:\n {10,}.*)*)$", text_of("tests/help.txt"), re.M)
-    return [(command, " ".join(says.split())) for command, says in found]
+    return re.findall(r"^  tsc (\S+(?: [A-Z]+)?) {2,}(.*)$", text_of("tests/help.txt"), re.M)
 
 
 def page(name, number, title, *parts):
@@ -193,7 +192,7 @@ def import_page():
 def completion():
     """The completion for bash."""
     words = [it.split(" ") for it, _ in commands()]
-    filed = "|".join(f"{it[0]}:{place}" for it in words for place in range(2, len(it) + 1))
+    filed = "|".join(it[0] for it in words if len(it) > 1)
     return f"""# Made by packaging/pages.py: change what it reads, and not this file.
 _tsc()
 {{
@@ -201,14 +200,11 @@ _tsc()
     COMPREPLY=()
     if [ "$COMP_CWORD" -eq 1 ]; then
         mapfile -t COMPREPLY < <(compgen -W "{" ".join(it[0] for it in words)}" -- "$cur")
-    else
-        case ${{COMP_WORDS[1]}}:$COMP_CWORD in
+    elif [ "$COMP_CWORD" -eq 2 ]; then
+        case ${{COMP_WORDS[1]}} in
             {filed})
                 compopt -o filenames
                 mapfile -t COMPREPLY < <(compgen -f -X '!*.toml' -- "$cur"; compgen -d -- "$cur")
-                ;;
-            compare:4)
-                mapfile -t COMPREPLY < <(compgen -W "--json --html" -- "$cur")
                 ;;
         esac
     fi

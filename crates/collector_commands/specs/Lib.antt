@@ -1,9 +1,8 @@
 -- Reading order: Outcomes, Texts (how the program ends, and what it says then), Configuration (what is read of its
--- file), Courses (what is asked for, and how a replay ends), Validating, Showing, Progress.
+-- file), Courses (what is asked for, and how a replay ends), Validating, Showing.
 pub mod Outcomes
 pub mod Configuration
 pub mod Validating
 pub mod Texts
 pub mod Showing
 pub mod Courses
-pub mod Progress
