@@ -111,7 +111,8 @@ def release():
 
 def commands():
     """The words of `tsc help`: each command with its arguments, and what it does."""
-    return re.findall(r"^  tsc (\S+(?: [A-Z]+)?) {2,}(.*)$", text_of("tests/help.txt"), re.M)
+    found = re.findall(r"^  tsc (\S+(?: [A-Z]+)*) {2,}(.*(?:\n {10,}.*)*)$", text_of("tests/help.txt"), re.M)
+    return [(command, " ".join(says.split())) for command, says in found]
 
 
 def page(name, number, title, *parts):
@@ -192,7 +193,7 @@ def import_page():
 def completion():
     """The completion for bash."""
     words = [it.split(" ") for it, _ in commands()]
-    filed = "|".join(it[0] for it in words if len(it) > 1)
+    filed = "|".join(f"{it[0]}:{place}" for it in words for place in range(2, len(it) + 1))
     return f"""# Made by packaging/pages.py: change what it reads, and not this file.
 _tsc()
 {{
@@ -200,11 +201,14 @@ _tsc()
     COMPREPLY=()
     if [ "$COMP_CWORD" -eq 1 ]; then
         mapfile -t COMPREPLY < <(compgen -W "{" ".join(it[0] for it in words)}" -- "$cur")
-    elif [ "$COMP_CWORD" -eq 2 ]; then
-        case ${{COMP_WORDS[1]}} in
+    else
+        case ${{COMP_WORDS[1]}}:$COMP_CWORD in
             {filed})
                 compopt -o filenames
                 mapfile -t COMPREPLY < <(compgen -f -X '!*.toml' -- "$cur"; compgen -d -- "$cur")
+                ;;
+            compare:4)
+                mapfile -t COMPREPLY < <(compgen -W "--json --html" -- "$cur")
                 ;;
         esac
     fi

@@ -1,11 +1,13 @@
 #!/usr/bin/python3
-"""Tries the status page in headless Chromium, on running collectors under load. It isn't part of the gate.
+"""Tries the pages in headless Chromium: the status page on running collectors under load, and that of a comparison. It isn't part of the gate.
 
 usage: page.py PROGRAM [SHOTS]     PROGRAM is the built tsc; SHOTS is a folder for screenshots
 
 It needs Debian's chromium, chromium-driver and python3-selenium. The last line is 'N passed, M failed'."""
 import http.client
+import json
 import pathlib
+import random
 import subprocess
 import sys
 import tempfile
@@ -18,6 +20,7 @@ from selenium.webdriver.chrome.service import Service
 from selenium.webdriver.common.by import By
 from selenium.webdriver.common.keys import Keys
 
+import compare
 from page_load import Sender, body_of, load, trace
 from collector import free_port, scrape
 
@@ -358,11 +361,45 @@ def looks(page, collector):
     page.console()
 
 
+def compared(page):
+    """The page of a comparison tells the numbers of the same comparison as JSON, by hand too, in light and dark and on a phone."""
+    with tempfile.TemporaryDirectory() as folder:
+        old, new, file = (pathlib.Path(folder) / it for it in ("old.toml", "<b>new.toml", "compared.html"))
+        old.write_text(compare.OLD, "utf-8")
+        new.write_text(compare.NEW, "utf-8")
+        generator = random.Random(71)
+        script = compare.script_of([compare.Trace(it, generator) for it in range(3000)])
+        told = json.loads(compare.compare(sys.argv[1], str(old), str(new), "--json", script=script).stdout)
+        file.write_text(compare.compare(sys.argv[1], str(old), str(new), "--html", script=script).stdout, "utf-8")
+        for width, scheme in ((1280, "dark"), (360, "light"), (1280, "light")):
+            page.media(scheme, width)
+            page.driver.get(f"file://{file}")
+            check(f"a comparison: nothing sticks out, {scheme}, {width} pixels", page.js("return document.documentElement.scrollWidth") <= width)
+            page.shot(f"compare-{scheme}-{width}")
+        page.media()
+        traces = told["traces"]
+        check("it tells who keeps traces", [number(it[1 if len(it) > 2 else 0]) for it in page.rows("#overlap-table")], [traces[it] for it in ("both", "only_old", "only_new", "none")])
+        rows = page.rows("#policies")
+        check("it tells all that is kept", [number(it) for it in rows[-1][2:4]], [told[it]["kept"]["spans"] for it in ("old", "new")])
+        check("each policy has its row", [it[0].removesuffix(" in the new alone").removesuffix(" in the old alone") for it in rows[: len(told["policies"])]], [it["name"] for it in told["policies"]])
+        check("the traces that differ, in their order", [it[0] for it in page.rows("#differ")], [it["trace_id"] for it in told["differ"]])
+        page.js("document.getElementById('which').value = 'old'; document.getElementById('which').dispatchEvent(new Event('change'))")
+        alone = [it["trace_id"] for it in told["differ"] if it["old"] and it["old"]["kept"]]
+        check("those of the old alone", [it[0] for it in page.rows("#differ")], alone)
+        before = page.js("return document.getElementById('moment').textContent")
+        page.driver.find_element(By.ID, "over-time").send_keys(Keys.ARROW_RIGHT)
+        check("an arrow key tells a moment of it", page.js("return document.getElementById('moment').textContent") != before)
+        check("a configuration's name is a text", page.js("return document.querySelectorAll('#facts b').length"), 0)
+        check("each table of it has a name and heads", page.js("return [...document.querySelectorAll('table')].every(it => it.getAttribute('aria-label') && it.tHead.querySelectorAll('th[scope=col]').length)"))
+        check("no error in the console of a comparison", page.console(), [])
+
+
 def main():
     collector, small, page, over = Collector(MAIN.format(odd=ODD)), Collector(SMALL), Page(), threading.Event()
     loading = threading.Thread(target=load, args=(f"127.0.0.1:{collector.listen}", 900, 60.0, lambda: not over.is_set()))
     loading.start()
     try:
+        compared(page)
         for tried in (balance, by_hand, remembered, why, refused, looks, long_open):
             tried(page, collector)
         left(page, small)

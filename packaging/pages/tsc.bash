@@ -4,12 +4,15 @@ _tsc()
     local cur=${COMP_WORDS[COMP_CWORD]}
     COMPREPLY=()
     if [ "$COMP_CWORD" -eq 1 ]; then
-        mapfile -t COMPREPLY < <(compgen -W "serve replay validate close show help version" -- "$cur")
-    elif [ "$COMP_CWORD" -eq 2 ]; then
-        case ${COMP_WORDS[1]} in
-            serve|replay|validate|close)
+        mapfile -t COMPREPLY < <(compgen -W "serve replay compare validate close show help version" -- "$cur")
+    else
+        case ${COMP_WORDS[1]}:$COMP_CWORD in
+            serve:2|replay:2|compare:2|compare:3|validate:2|close:2)
                 compopt -o filenames
                 mapfile -t COMPREPLY < <(compgen -f -X '!*.toml' -- "$cur"; compgen -d -- "$cur")
+                ;;
+            compare:4)
+                mapfile -t COMPREPLY < <(compgen -W "--json --html" -- "$cur")
                 ;;
         esac
     fi

@@ -1,4 +1,5 @@
 pub mod Texts
 pub mod Bodies
 pub mod Replaying
+pub mod Compared
 pub mod Rows

@@ -1,17 +1,19 @@
 -- What the arguments ask for, and how the outcome of a replay arises.
-use Rattle.std.specs.Prelude.{◌≡◌, ◌⊎◌, ℕ, ◌||◌, List, [], ◌∷◌, Option, Some, None, Result, codes, if◌then◌else◌}
+use Rattle.std.specs.Prelude.{◌≡◌, ◌⊎◌, ⊤, ℕ, ◌||◌, ◌&&◌, List, [], ◌∷◌, Option, Some, None, Result, codes, if◌then◌else◌}
 use Rattle.std.specs.Str.{bytes_eq}
 use Rattle.drop_ledger.specs.declared.report.Report.{Report}
 use Rattle.tsc_config.specs.declared.config.Config.{Config}
 use Rattle.script_session.specs.declared.fault.ReplayFault.{ReplayFault}
 use Rattle.collector_commands.specs.declared.outcome.Outcome.{Outcome}
-use Rattle.collector_commands.specs.declared.outcome.Outcome.TheVariants.{Usage, Unreadable, Configuration, NoMemory, CannotListen, CannotWrite}
+use Rattle.collector_commands.specs.declared.outcome.Outcome.TheVariants.{Usage, Unreadable, Configuration, Script, NoMemory, CounterOverflow, CannotListen, CannotWrite, Shown, SinkDown}
 use Rattle.collector_commands.specs.declared.asking.Command.{Command}
-use Rattle.collector_commands.specs.declared.asking.Command.TheVariants.{Replay, Serve, Validate, Close, Show, Help, Version}
+use Rattle.collector_commands.specs.declared.asking.Command.TheVariants.{Replay, Compare, Serve, Validate, Close, Show, Help, Version}
+use Rattle.collector_commands.specs.declared.asking.Form.TheVariants.{Text, Json, Page}
 use Rattle.collector_commands.specs.Outcomes.{outcome_of}
 use Rattle.collector_commands.specs.Configuration.{FileFails, IsConfigOf}
 use Rattle.collector_commands.specs.declared.configuration.FileFault.{FileFault}
 use Rattle.config_shards.specs.Shards.{settings_by}
+use Rattle.script_session.specs.Comparing.{BothPlayed}
 use Rattle.script_session.specs.Replay.{ReplayRun, RunEnds}
 use Rattle.tsc_script.specs.Reads.{KnownReader}
 
@@ -42,10 +44,20 @@ asked_by word =
     else if bytes_eq word (codes "close") then Some Close
     else None
 
+-- what a word asks for that stands before the paths of two configurations, by the word behind them, if there is one
+unfoldable pub asked_of_two : (word form : List ℕ) → Option Command
+asked_of_two word form =
+    if bytes_eq word (codes "compare") && bytes_eq form [] then Some (Compare Text)
+    else if bytes_eq word (codes "compare") && bytes_eq form (codes "--json") then Some (Compare Json)
+    else if bytes_eq word (codes "compare") && bytes_eq form (codes "--html") then Some (Compare Page)
+    else None
+
 -- what the arguments ask for
 abbrev pub asked : (arguments : List (List ℕ)) → Option Command
 asked (word ∷ []) = asked_alone word
 asked (word ∷ path ∷ []) = asked_by word
+asked (word ∷ old ∷ new ∷ []) = asked_of_two word []
+asked (word ∷ old ∷ new ∷ form ∷ []) = asked_of_two word form
 asked _ = None
 
 -- this is asked for
@@ -93,3 +105,33 @@ Replays course Unreadable = FileFails course.file Unreadable × NothingDone cour
 Replays course (Configuration fault) = FileFails course.file (Configuration fault) × NothingDone course
 Replays course NoMemory = (FileFails course.file NoMemory × NothingDone course) ⊎ RanTo course NoMemory
 Replays course outcome = RanTo course outcome
+
+-- how an outcome arises where a comparison is asked for, by what was read from the second configuration's file: one of
+-- the files gives no configuration; or both do, and the script was read to its end, and led each run to a report; or
+-- something kept it from its end. Nothing is written before the last text.
+abbrev pub Compares : Course → (new_file : Result (List ℕ) FileFault) → Outcome → Type 0
+Compares course new_file Unreadable = (FileFails course.file Unreadable ⊎ FileFails new_file Unreadable) × NothingDone course
+Compares course new_file (Configuration fault) = (FileFails course.file (Configuration fault) ⊎ FileFails new_file (Configuration fault)) × NothingDone course
+Compares course new_file (Shown text) =
+    ((old new : Config) × IsConfigOf course.file old × IsConfigOf new_file new
+    × (old_report new_report : Report) × BothPlayed old new course.unread course.unread_after old_report new_report)
+    × (course.taken_after ≡ course.taken)
+Compares course new_file (Script line) = course.taken_after ≡ course.taken
+Compares course new_file NoMemory = course.taken_after ≡ course.taken
+Compares course new_file CounterOverflow = course.taken_after ≡ course.taken
+Compares course new_file SinkDown = course.taken_after ≡ course.taken
+Compares course new_file _ = ⊥
+
+-- what both runs kept is shown; or there was no memory for it
+abbrev pub IsTold : Outcome → Type 0
+IsTold (Shown text) = ⊤
+IsTold NoMemory = ⊤
+IsTold _ = ⊥
+
+-- something kept a comparison from the script's end
+abbrev pub IsKeptBack : Outcome → Type 0
+IsKeptBack (Script line) = ⊤
+IsKeptBack NoMemory = ⊤
+IsKeptBack CounterOverflow = ⊤
+IsKeptBack SinkDown = ⊤
+IsKeptBack _ = ⊥

@@ -8,18 +8,22 @@
 #![tactic(auto)]
 
 mod asking;
+mod comparing;
 mod configuration;
 mod outcome;
+mod progress;
 mod replay;
 mod showing;
 mod surroundings;
 mod validating;
 
-pub use asking::{Command, HELP, VERSION, asked};
+pub use asking::{Command, Form, HELP, VERSION, asked};
+pub use comparing::compare_by;
 pub use configuration::{
     FileFault, MAX_CONFIG_LEN, ReadFault, config_in, config_of, read_file, text_in,
 };
 pub use outcome::{Outcome, TEXT_ROOM, finish, without_memory};
+pub use progress::Progress;
 pub use replay::replay_by;
 pub use showing::show_by;
 pub use surroundings::Surroundings;

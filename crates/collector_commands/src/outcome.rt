@@ -49,7 +49,7 @@ pub enum Outcome {
     Closed,
     /// It didn't, or there is none.
     CannotClose,
-    /// The body is a request, of which this is the line.
+    /// What was to be shown: the line of a request, or a comparison.
     Shown(Vec<u8>),
     /// It is none, or wasn't read: this line, on standard error, says why.
     NotShown(String),

@@ -1,7 +1,7 @@
 -- How the outcome of what is asked for arises.
 -- For what `run` ensures.
 use Rattle.collector_commands.specs.declared.asking.Command.{Command}
-use Rattle.collector_commands.specs.declared.asking.Command.TheVariants.{Replay, Serve, Validate, Close, Show, Help, Version}
+use Rattle.collector_commands.specs.declared.asking.Command.TheVariants.{Replay, Compare, Serve, Validate, Close, Show, Help, Version}
 use Rattle.collector_commands.specs.declared.outcome.Outcome.{Outcome}
 use Rattle.collector_commands.specs.declared.outcome.Outcome.TheVariants as is
 use Rattle.std.specs.Prelude.{◌≡◌, ℕ, List, Option, Result, Ok, Err}
@@ -34,6 +34,7 @@ unshown (Err body_is.TooLong) shows = shows
 -- nothing that is asked for ends as wrong arguments do
 no-usage : (course : Course) (input : Option (List ℕ)) (command : Command) → Does course input command is.Usage → ⊥
 no-usage course input Replay does = does
+no-usage course input (Compare form) does = does.1
 no-usage course input Serve does = does
 no-usage course input Validate does = untold course.file does.0
 no-usage course input Close does = uncalled course.file does.0

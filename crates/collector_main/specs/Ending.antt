@@ -4,19 +4,20 @@ use Rattle.collector_commands.specs.declared.outcome.Outcome.{Outcome}
 use Rattle.collector_commands.specs.declared.outcome.Outcome.TheVariants.{Usage, NoMemory}
 use Rattle.collector_commands.specs.declared.outcome.Outcome.TheVariants as is
 use Rattle.collector_commands.specs.declared.asking.Command.{Command}
-use Rattle.collector_commands.specs.declared.asking.Command.TheVariants.{Replay, Serve, Validate, Close, Show, Help, Version}
+use Rattle.collector_commands.specs.declared.asking.Command.TheVariants.{Replay, Compare, Serve, Validate, Close, Show, Help, Version}
 use Rattle.collector_commands.specs.Validating.{FileTells}
 use Rattle.collector_main.specs.Closing.{FileCloses}
 use Rattle.collector_commands.specs.Showing.{InputShows}
 use Rattle.collector_commands.specs.declared.configuration.FileFault.{FileFault}
 use Rattle.tsc_script.specs.Reads.{KnownReader}
 use Rattle.collector_commands.specs.Texts.{Finishes}
-use Rattle.collector_commands.specs.Courses.{Course, AsksFor, AsksNothing, NothingDone, Replays}
+use Rattle.collector_commands.specs.Courses.{Course, AsksFor, AsksNothing, NothingDone, Replays, Compares}
 use Rattle.collector_main.specs.Serving.{Serves}
 
 -- how an outcome arises by what is asked for; `input` is what standard input has, where that is known
 abbrev pub Does : Course → (input : Option (List ℕ)) → Command → Outcome → Type 0
 Does course input Replay outcome = Replays course outcome
+Does course input (Compare form) outcome = (new_file : Result (List ℕ) FileFault) × Compares course new_file outcome
 Does course input Serve outcome = Serves course outcome
 Does course input Validate outcome = FileTells course.file outcome × NothingDone course
 Does course input Close outcome = FileCloses course.file outcome × NothingDone course

@@ -17,17 +17,22 @@ mod sending;
 mod writing_lines;
 
 use crate::program::program;
-use collector_commands::{Surroundings, without_memory};
+use collector_commands::{Command, Progress, Surroundings, asked, without_memory};
 use std::alloc::{Alloc, Global};
-use std::io::{ErrorKind, Stderr, Stdin};
+use std::io::{ErrorKind, IsTerminal, Stderr, Stdin};
 use std::process::ExitCode;
 use std::rt::Env;
-use std::{env, io};
+use std::{env, fs, io};
 use tsc_script::ScriptReads;
 
 fn main(rt: HostRuntime) -> ExitCode {
-    let mut input = ScriptReads { reader: rt.stdin() };
-    let (_, status) = match arguments(&rt) {
+    let arguments = arguments(&rt);
+    let reader = match &arguments {
+        Ok(arguments) => script_of(&rt, arguments),
+        Err(_) => script_of(&rt, &[]),
+    };
+    let mut input = ScriptReads { reader };
+    let (_, status) = match arguments {
         Ok(arguments) => program(
             &rt,
             rt.alloc(),
@@ -48,6 +53,24 @@ fn main(rt: HostRuntime) -> ExitCode {
         ),
     };
     ExitCode::from(status)
+}
+
+/// The script, from standard input; while two runs are compared, a terminal is shown how much of it is read.
+fn script_of(rt: &HostRuntime, arguments: &[String]) -> Progress<Stdin, Stderr> {
+    let errors = rt.stderr();
+    let is_compared = matches!(asked(arguments), Some((Command::Compare(_), _, _)));
+    if is_compared && errors.is_terminal() {
+        return Progress::new(rt.stdin(), Some(errors), script_size(rt));
+    }
+    Progress::new(rt.stdin(), None, 0)
+}
+
+/// How many bytes standard input has, where it is a file, and else 0.
+fn script_size(rt: &HostRuntime) -> u64 {
+    match fs::metadata(rt, "/dev/stdin") {
+        Ok(metadata) if metadata.is_file() => metadata.len(),
+        _ => 0,
+    }
 }
 
 /// What a collector is given beside its script and its output.

@@ -6,8 +6,8 @@ ghost use Rattle.collector_main.specs.Ending.{CameTo, Ends};
 use crate::closing::close_by;
 use crate::collecting::serve_by;
 use collector_commands::{
-    Command, Outcome, Surroundings, TEXT_ROOM, asked, finish, read_file, replay_by, show_by,
-    told_of, without_memory,
+    Command, Outcome, Surroundings, TEXT_ROOM, asked, compare_by, finish, read_file, replay_by,
+    show_by, told_of, without_memory,
 };
 use pipeline::Machine;
 use std::alloc::Global;
@@ -81,11 +81,18 @@ where
       taken_after = Writer.contents result.0;
     }) (Input.Read.remaining around.input) result.1 }
 {
-    let Some((command, path)) = asked(arguments) else {
+    let Some((command, path, new_path)) = asked(arguments) else {
         return (writer, Outcome::Usage);
     };
     match command {
         Command::Replay => replay_by(alloc, read_file(rt, alloc, path), reader, writer),
+        Command::Compare(form) => {
+            let files = (read_file(rt, alloc, path), read_file(rt, alloc, new_path));
+            (
+                writer,
+                compare_by(alloc, files, (path, new_path), form, reader),
+            )
+        }
         Command::Serve => serve_by(rt, alloc, path, read_file(rt, alloc, path), around, writer),
         Command::Validate => (writer, told_of(alloc, path, read_file(rt, alloc, path))),
         Command::Close => (writer, close_by(rt, alloc, read_file(rt, alloc, path))),

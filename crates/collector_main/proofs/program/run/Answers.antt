@@ -4,7 +4,7 @@ use Rattle.collector_commands.specs.Configuration.{file_of}
 use Rattle.collector_commands.specs.Courses.{AsksFor}
 use Rattle.collector_commands.specs.declared.configuration.FileFault.TheVariants.{Unreadable}
 use Rattle.collector_commands.specs.declared.configuration.ReadFault.TheVariants.{Other}
-use Rattle.collector_commands.specs.declared.asking.Command.TheVariants.{Replay, Serve, Validate, Close, Show, Help, Version}
+use Rattle.collector_commands.specs.declared.asking.Command.TheVariants.{Replay, Compare, Serve, Validate, Close, Show, Help, Version}
 use Rattle.collector_main.proofs.Courses.{CameTo-does}
 use Rattle.collector_main.proofs.program.run.Goals as goal
 
@@ -16,6 +16,14 @@ returns-in-Replay g c =
     let arguments = map string_bytes c.args.arguments.now in
     let asked = subst (λ command. AsksFor arguments command) c.in-Replay.is c.in-Some.ensures.some in
     (file_of (λ v. v.items) c.read_file.result, CameTo-does _ _ Replay c.replay_by.result.1 asked (c.replay_by.ensures arguments))
+
+pub returns-in-Compare : goal.returns-in-Compare
+returns-in-Compare g c =
+    let arguments = map string_bytes c.args.arguments.now in
+    let asked = subst (λ command. AsksFor arguments command) c.in-Compare.is c.in-Some.ensures.some in (
+      file_of (λ v. v.items) c.read_file-in-Compare.result,
+      CameTo-does _ _ (Compare c.in-Compare.form) c.compare_by.result asked (file_of (λ v. v.items) c.read_file-2.result, c.compare_by.ensures arguments (g.Writer.Write.contents c.args.writer)),
+    )
 
 pub returns-in-Serve : goal.returns-in-Serve
 returns-in-Serve g c =
