@@ -73,6 +73,26 @@ impl DecisionCache {
         self.renew(id)
     }
 
+    /// The verdict of a trace that is remembered. It stays as it is, so one that is looked at isn't remembered longer.
+    pub fn peek(&self, id: TraceId) -> Option<Verdict>
+        ensures verdict { result ≡ asked id self.now }
+        ensures remembered { (touches : List Touch) → StandsFor self.now touches → result ≡ cached_as (sizes_of self.now) touches id }
+    {
+        self.held_as(id)
+    }
+
+    fn held_as(&self, id: TraceId) -> Option<Verdict>
+        ensures { result ≡ asked id self.now }
+    {
+        if self.sampled.has(id) {
+            Some(Verdict::Sampled)
+        } else if self.not_sampled.has(id) {
+            Some(Verdict::NotSampled)
+        } else {
+            None
+        }
+    }
+
     fn renew(&mut self, id: TraceId) -> Option<Verdict>
         ensures verdict { result ≡ asked id self.old }
         ensures lists { self.new ≡ after_asking id self.old }

@@ -62,6 +62,15 @@ impl Traces {
         }
     }
 
+    pub fn has(&self, trace: TraceId) -> bool
+        ensures { result ≡ is_held trace self.now.traces }
+    {
+        let Some(cache) = &self.cache else {
+            return false;
+        };
+        cache.contains(&trace)
+    }
+
     pub fn renew(&mut self, trace: TraceId) -> bool
         ensures held { result ≡ is_held trace self.old.traces }
         ensures after { self.new ≡ record self.old { traces = renewed trace self.old.traces } }

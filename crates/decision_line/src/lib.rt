@@ -10,9 +10,11 @@
 #![tactic(auto)]
 
 mod decision;
+mod held;
 mod line;
 mod members;
 mod putting;
 
 pub use decision::{DecidedTrace, DueCause, EvictedTrace, LateSpans, Said};
+pub use held::TraceHeld;
 pub use line::{put_decided, put_evicted, put_late};

@@ -8,3 +8,5 @@ mod Effects
 mod Fates
 pub mod Sent
 mod AllBut
+mod HeldTraces
+mod Rows

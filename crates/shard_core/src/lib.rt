@@ -18,6 +18,7 @@
 mod answer;
 mod desk;
 mod ends;
+mod held;
 mod keeping;
 mod setup;
 mod shard;

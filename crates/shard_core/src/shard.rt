@@ -17,16 +17,18 @@ ghost use Rattle.shard_core.specs.Holding.{answer_to_append, policies_on};
 
 use crate::answer::{Decided, Decision, DueTrace, Taken, late};
 use crate::ends::all_but;
+use crate::held::held_by;
 use crate::keeping::{appended, opened};
 use crate::setup::{ShardSetup, Waits, nothing_held};
 use crate::telling::cause_of;
 use arrayvec::ArrayVec;
 use decision_cache::DecisionCache;
+use decision_line::TraceHeld;
 use otlp_types::{Arrival, Ids, Item};
 use policy_eval::{Evaluation, Searches, evaluate_with_answers, searches_for};
 use policy_tree::Policies;
 use rate_budget::Limiter;
-use span_ids::{Moment, Reason, Verdict};
+use span_ids::{Moment, Reason, TraceId, Verdict};
 use std::alloc::{AllocError, Global};
 use std::marker::Model;
 use trace_buffer::{Episode, Evicted, State, TraceBuffer};
@@ -73,9 +75,11 @@ impl Model for Shard {
 impl Shard {
     ghost use Rattle.shard_core.specs.Held.{StandsFor, has_due, is_finished, due_by, settings, settings_of};
     ghost use Rattle.shard_core.specs.Taking.{entry, ends_after, answer_to, is_refusal, is_kept, only_clock, TellsFate, is_last, released_by, dropped_by, Decides, DecidesWithDecider, DecidesWithAnswers, waiting, released_in, dropped_in, dealt_after};
-    ghost use Rattle.journal_theory.specs.Journal.{has_ids};
+    ghost use Rattle.journal_theory.specs.Journal.{has_ids, finding, notes};
     ghost use Rattle.journal_theory.specs.Marked.{marks_apply};
     ghost use Rattle.shard_core.specs.Telling.{due_trace};
+    ghost use Rattle.shard_core.specs.HeldTrace.{trace_held, state_told};
+    ghost use Rattle.journal_theory.specs.Laws.{state_found};
     ghost use Rattle.shard_core.specs.Holding.{held_after_tick, held_after_end, TakesSpan};
     ghost use Rattle.trace_buffer.specs.Buffer.{traces_waiting, spans_waiting};
 
@@ -153,6 +157,16 @@ impl Shard {
             Some(episode) => Some(episode.moment()),
             None => None,
         }
+    }
+
+    /// What it holds of a trace, which stays as it is: none that is remembered is so for longer. Where nothing is due,
+    /// the trace stands as a span of it would find it, by all that was taken.
+    pub fn held_of(&self, trace: TraceId) -> TraceHeld
+        ensures held { result ≡ trace_held trace self.now }
+        ensures found { (past : Journal) (dealt : ℕ) → StandsFor self.now past dealt → has_due self.now ≡ false → is_finished self.now ≡ false →
+            state_told result ≡ state_found (finding (settings self.now) (notes (settings self.now) past) trace) }
+    {
+        held_by(self.buffer.get(trace), &self.cache, trace)
     }
 
     /// Whether every sender has ended.

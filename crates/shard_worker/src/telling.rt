@@ -8,7 +8,7 @@ use shard_core::{
 };
 use span_ids::{Moment, TraceId};
 use std::sync::Wait;
-use thread_watch::{ShardLoad, Watcher};
+use thread_watch::{MOST_ASKED, ShardLoad, Watcher};
 
 /// The least time between two tellings of what a shard holds, in milliseconds.
 const PAUSE: u64 = 500;
@@ -123,8 +123,10 @@ pub fn next_telling(item: &Item, told: Option<Moment>) -> Option<Moment> {
     }
 }
 
-/// Tells what the shard of this number holds, if it is to be told now, and answers when it was told last.
-pub fn tell_load<C: Room, W: Watcher>(
+/// Tells what the shard of this number holds, and what of traces that somebody asks for, if it is to be told now, and
+/// answers when it was told last.
+pub fn tell_load<C: Room, W: Watcher, R: Wait>(
+    rt: &R,
     watcher: &W,
     number: u16,
     shard: &Shard,
@@ -150,5 +152,18 @@ pub fn tell_load<C: Room, W: Watcher>(
             waited,
         },
     );
+    tell_traces(rt, watcher, number, shard);
     telling
+}
+
+/// Tells what the shard of this number holds of each trace that somebody asks for.
+fn tell_traces<W: Watcher, R: Wait>(rt: &R, watcher: &W, number: u16, shard: &Shard) {
+    if !watcher.asks_for_traces() {
+        return;
+    }
+    for place in 0..MOST_ASKED {
+        if let Some(trace) = watcher.asked_trace(rt, place) {
+            watcher.trace_held(rt, number, trace, shard.held_of(trace));
+        }
+    }
 }

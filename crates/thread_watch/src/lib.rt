@@ -10,4 +10,4 @@ mod barrier;
 mod watcher;
 
 pub use barrier::{Barrier, ThreadPlace};
-pub use watcher::{ShardLoad, Unwatched, Watcher};
+pub use watcher::{MOST_ASKED, ShardLoad, Unwatched, Watcher};

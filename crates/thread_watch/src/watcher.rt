@@ -1,7 +1,11 @@
 //! What threads count and hold, told while they run.
 use crate::barrier::Barrier;
-use decision_line::{DecidedTrace, EvictedTrace, LateSpans, Said};
+use decision_line::{DecidedTrace, EvictedTrace, LateSpans, Said, TraceHeld};
+use span_ids::TraceId;
 use std::sync::Wait;
+
+/// At most so many traces are asked for at the same time.
+pub const MOST_ASKED: usize = 8;
 
 /// What a shard holds.
 #[derive(Clone, Copy, PartialEq, Eq)]
@@ -43,6 +47,19 @@ pub trait Watcher {
 
     /// A shard has taken late spans.
     fn spans_late<R: Wait>(&self, _rt: &R, _late: &LateSpans) {}
+
+    /// Whether somebody asks what shards hold of a trace.
+    fn asks_for_traces(&self) -> bool {
+        false
+    }
+
+    /// The trace that is asked for at this place, below `MOST_ASKED`, if one is.
+    fn asked_trace<R: Wait>(&self, _rt: &R, _place: usize) -> Option<TraceId> {
+        None
+    }
+
+    /// A shard holds this of a trace that is asked for.
+    fn trace_held<R: Wait>(&self, _rt: &R, _shard: u16, _trace: TraceId, _held: TraceHeld) {}
 
     /// A shard hands over a span whose trace was decided before.
     fn handed_late(&self) {}
