@@ -1,6 +1,6 @@
 -- What a script's connections receive, one instruction after the other.
 -- For the contracts of `each_connection_receives`, `any_order_will_do` and `records_replay`.
-use Rattle.std.proofs.Common.{◌≡◌, ℕ, ◌+◌, ◌<◌, ◌⊎◌, Bool, true, false, cond, ◌==◌, nat_eq, List, [], ◌∷◌, ◌++◌, length, filter, map, Option, Some, None, refl, ap, sym, subst, ◌∙◌, arith, inl, inr, eq-eqb, eqb-true}
+use Rattle.std.proofs.Common.{◌≡◌, ℕ, ◌+◌, Bool, true, false, cond, ◌==◌, nat_eq, List, [], ◌∷◌, ◌++◌, length, filter, Option, Some, None, refl, ap, sym, subst, ◌∙◌, arith, inl, inr, eq-eqb, eqb-true}
 use Rattle.std.proofs.lemmas.List.{append_assoc, append-nil}
 use Rattle.std.proofs.lemmas.List.Elements.{filter-append}
 use Rattle.std.specs.Map.{lookup}
@@ -76,8 +76,9 @@ module _ (number : ℕ) (conn : Conn) (c : Contacts) (received : List Arrival) (
       let one : Came = record { moment = moment; request = request } in
       let before : List Arrival = spans_from conn.key 0 came in
       let many : conn.next ≡ length before = k.next number conn found ∙ (sym (length_filter (is_of_conn conn.key) received) ∙ ap length h) in
+      let at : conn.next ≡ 0 + length before = omega (arith, many) in
       let more : spans ≡ spans_from conn.key (0 + length before) (one ∷ [])
-      = ap (λ (n : ℕ). arrivals_from conn.key n moment (records_of request)) many ∙ sym (append-nil (arrivals_from conn.key (length before) moment (records_of request))) in
+      = ap (λ (n : ℕ). arrivals_from conn.key n moment (records_of request)) at ∙ sym (append-nil (arrivals_from conn.key (0 + length before) moment (records_of request))) in
       let own : filter (is_of_conn conn.key) (received ++ spans) ≡ spans_from conn.key 0 (came ++ one ∷ [])
       = filter-append (is_of_conn conn.key) received spans
       ∙ (ap (λ (z : List Arrival). z ++ filter (is_of_conn conn.key) spans) h

@@ -1,22 +1,22 @@
 -- The laws of what scripts' connections receive.
 -- For the contracts of `each_connection_receives`, `any_order_will_do` and `records_replay`.
-use Rattle.std.proofs.Common.{◌≡◌, ℕ, ◌<◌, Bool, true, false, cond, ◌==◌, nat_eq, List, [], ◌∷◌, ◌++◌, map, flat_map, Option, Some, None, Ok, refl, ap, sym, subst, ◌∙◌}
+use Rattle.std.proofs.Common.{◌≡◌, ℕ, ◌<◌, Bool, nat_eq, List, [], ◌∷◌, ◌++◌, map, flat_map, Option, Some, Ok, refl, ap, sym, subst, ◌∙◌}
 use Rattle.std.specs.Map.{lookup}
 use Rattle.lane_seq.specs.declared.preparing.Conn.{Conn}
 use Rattle.lane_seq.specs.declared.reply.Reply.TheVariants.{Busy}
 use Rattle.span_sink.specs.LineSinks.{LineSinkState}
 use Rattle.journal_theory.specs.Journal.{Settings}
-use Rattle.tsc_script.specs.Instructions.{Instruction, receive, tick, close}
+use Rattle.tsc_script.specs.Instructions.{Instruction, close}
 use Rattle.script_line.specs.Entries.{Entry, request, ticked, said_by}
 use Rattle.script_line.proofs.Entries.{read-back}
 use Rattle.script_line.specs.Connections.{number_of}
 use Rattle.script_run.specs.Requests.{BodyReading, refuses}
 use Rattle.script_run.specs.World.{ScriptWorld, Sizes, new_world, RepliesAndRuns, Answers, PlaysAll}
-use Rattle.script_run.specs.Calm.{is_refusal, Calm}
+use Rattle.script_run.specs.Calm.{Calm}
 use Rattle.script_run.proofs.Calm.{calm_reply, calm_before}
 use Rattle.script_run.proofs.Agreeing.{reading_same}
 use Rattle.script_run.proofs.Numbering.{knows_new}
-use Rattle.record_laws.specs.Recorded.{Said, Came, said_on, all_said_on, came_by, AreTakenFor, AreAllRequests, spans_from, received_on, recorded_on, EachConnectionReceives, AnyOrderWillDo, RecordsReplay}
+use Rattle.record_laws.specs.Recorded.{Said, Came, said_on, all_said_on, came_by, AreAllRequests, spans_from, received_on, recorded_on, EachConnectionReceives, AnyOrderWillDo, RecordsReplay}
 use Rattle.record_laws.proofs.Connected.{HasReceived, all_go}
 
 pub each_connection_receives : EachConnectionReceives

@@ -1,13 +1,13 @@
 -- What some scripts say and bring, computed on the definitions. No clause needs them: they show what the words of
 -- `Recorded` say.
-use Rattle.std.proofs.Common.{◌≡◌, ℕ, List, [], ◌∷◌, map, flat_map, refl}
+use Rattle.std.proofs.Common.{◌≡◌, List, [], ◌∷◌, map, flat_map, refl}
 use Rattle.otlp_types.specs.declared.arrival.Arrival.{Arrival}
 use Rattle.otlp_types.specs.declared.request.Request.{Request}
 use Rattle.span_ids.specs.declared.keys.ConnKey.{ConnKey}
 use Rattle.world_theory.proofs.Samples.{plain}
 use Rattle.tsc_script.specs.Instructions.{Instruction, receive, tick, close}
 use Rattle.script_line.specs.Entries.{Entry, request, ticked}
-use Rattle.record_laws.specs.Recorded.{Said, Came, all_said_on, recorded_on, spans_from}
+use Rattle.record_laws.specs.Recorded.{Came, all_said_on, recorded_on, spans_from}
 
 -- connection 3 says two things, and connection 4 one between them
 abbrev script : List Instruction

@@ -1,5 +1,5 @@
 -- What the connections of a script receive, and what the record of what came is replayed as.
-use Rattle.std.specs.Prelude.{◌≡◌, ℕ, ◌+◌, ◌<◌, ◌==◌, if◌then◌else◌, nat_eq, Bool, List, [], ◌∷◌, ◌++◌, map, flat_map, filter, length, Option, Some, Ok}
+use Rattle.std.specs.Prelude.{◌≡◌, ℕ, ◌+◌, ◌<◌, ◌==◌, if◌then◌else◌, nat_eq, Bool, List, [], ◌∷◌, ◌++◌, flat_map, filter, length, Some, Ok}
 use Rattle.std.specs.List.{All}
 use Rattle.std.specs.Map.{lookup}
 use Rattle.span_ids.specs.declared.keys.ConnKey.{ConnKey}
@@ -47,7 +47,7 @@ pub record Came : Type 0 where
 
 -- the request, if the body was taken for one
 abbrev pub came_by : (moment : ℕ) → BodyReading → List Came
-came_by moment (reads request) = record { moment = moment; request = request } ∷ []
+came_by moment (reads read) = record { moment = moment; request = read } ∷ []
 came_by moment (refuses reply) = []
 
 -- each body was taken for a request, or refused, by a reading that may be; the requests are these
