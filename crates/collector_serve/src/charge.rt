@@ -8,11 +8,13 @@ use crate::wall_clock::WallClock;
 use admin_http::Admin;
 use collector_board::{Board, Closer, OutputStall, REMEMBERED, StopMark};
 use decision_json::{decisions_text, trace_text};
+use decision_line::TraceHeld;
 use http_lane::{Clock as Moments, HasStopMark};
 use lane_driver::Loads;
 use metrics_text::{Metrics, metrics_text};
 use otlp_types::Text;
 use output_file::ReopenMark;
+use span_ids::TraceId;
 use status_json::{Status, status_text};
 use std::alloc::{AllocError, Global};
 use std::io::Read;
@@ -218,7 +220,12 @@ impl<'c, R: Clock + Wait> Admin for InCharge<'c, R> {
         let now = WallClock::new(self.rt).now();
         let listeners = self.charge.board.listeners();
         let news = listeners.look(self.rt, alloc, now, REMEMBERED)?;
-        let text = trace_text(alloc, listeners.names(), &id, &news)?;
+        let held = match TraceId::from_bytes(&id) {
+            Some(trace) => self.charge.board.questions().ask(self.rt, alloc, trace, now)?,
+            // No span has such an id.
+            None => Some(TraceHeld::Unknown),
+        };
+        let text = trace_text(alloc, listeners.names(), &id, &news, held)?;
         Ok(text)
     }
 
