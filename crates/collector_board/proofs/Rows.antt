@@ -1,7 +1,9 @@
 -- Worked rows, computed: how long a write stalls, for how long decisions are told and questions stand, and what the
--- answers of several shards make. They serve the definitions that `OutputStall`, `is_looked_at`, `stands` and `held_by_all`
--- promise.
+-- answers of several shards make, how often a batch failed and what waits for the backend. They serve the definitions that
+-- `OutputStall`, `is_looked_at`, `stands`, `held_by_all`, `tries_after` and `left_by` promise.
 use Rattle.std.specs.Prelude.{◌≡◌, [], ◌∷◌, Some, None, true, false, refl}
+use Rattle.batch_post.specs.declared.outcome.AttemptOutcome.TheVariants.{Answered, NoAnswer}
+use Rattle.collector_board.specs.Backlog.{left_by, tries_after}
 use Rattle.collector_board.specs.Looks.{is_looked_at}
 use Rattle.collector_board.specs.Questions.{held_by_all, stands}
 use Rattle.collector_board.specs.Stalls.{stalled_seconds}
@@ -32,3 +34,13 @@ answers : held_by_all (Some Unknown ∷ Some (Waiting 71 4) ∷ None ∷ [])
     ∷ held_by_all (Some (Decided Sampled) ∷ Some (Remembered NotSampled) ∷ []) ∷ []
     ≡ Some (Waiting 71 4) ∷ Some (Remembered NotSampled) ∷ Some Unknown ∷ None ∷ None ∷ Some (Decided Sampled) ∷ []
 answers = refl
+
+-- refused, taken, not answered, and once more after the most there are
+tries : tries_after 3 (Answered 503 None) ∷ tries_after 4 (Answered 200 None) ∷ tries_after 5 NoAnswer ∷ tries_after 18446744073709551615 NoAnswer ∷ [] ≡ 4 ∷ 0 ∷ 6 ∷ 18446744073709551615 ∷ []
+tries = refl
+
+-- of 1,000 that wait, 20 and 3 in queues and 400 and 50 in traces; of 30; and with no shard
+left : left_by 1000 (record { queued = 20; traces = 7; spans = 400 } ∷ record { queued = 3; traces = 8; spans = 50 } ∷ [])
+    ∷ left_by 30 (record { queued = 20; traces = 7; spans = 400 } ∷ record { queued = 3; traces = 8; spans = 50 } ∷ []) ∷ left_by 9 [] ∷ []
+    ≡ 527 ∷ 0 ∷ 9 ∷ []
+left = refl

@@ -1,7 +1,8 @@
 //! What all threads of a run have counted, for readers while it runs.
-use crate::cells::{PolicyCells, ShardCells};
+use crate::cells::{PolicyCells, ShardCells, policy_cells};
 use crate::decision_listeners::DecisionListeners;
 use crate::decision_queue::DecisionQueue;
+use crate::export_progress::ExportProgress;
 use crate::record_queue::RecordQueue;
 use crate::trace_questions::TraceQuestions;
 use batch_post::AttemptOutcome;
@@ -69,6 +70,8 @@ pub struct Board {
     listeners: DecisionListeners,
     /// What is asked of the shards.
     questions: TraceQuestions,
+    /// How the backend takes what is sent to it.
+    export: ExportProgress,
     /// Where what came waits until it is written, if it is.
     record: Option<RecordQueue>,
 }
@@ -110,6 +113,7 @@ impl Board {
             failing_code: AtomicU64::new(0),
             listeners: DecisionListeners::new(alloc, policies)?,
             questions: TraceQuestions::new(alloc, shards),
+            export: ExportProgress::new(),
             record: None,
         })
     }
@@ -143,6 +147,11 @@ impl Board {
     /// What is asked of the shards.
     pub fn questions(&self) -> &TraceQuestions {
         &self.questions
+    }
+
+    /// How the backend takes what is sent to it.
+    pub fn export(&self) -> &ExportProgress {
+        &self.export
     }
 
     /// The counts as they are now.
@@ -368,17 +377,6 @@ impl Board {
             _ => &self.exporter_down,
         }
     }
-}
-
-/// Cells for what no policy decides, and then for what each does, in order.
-fn policy_cells(alloc: Global, policies: &Policies) -> Result<Vec<PolicyCells>, AllocError> {
-    let mut cells = Vec::new(alloc);
-    // For what no policy decides, such as a trace that is too big (D-040, D-066).
-    cells.push(PolicyCells::new(Text::new(alloc)))?;
-    for policy in policies.as_slice() {
-        cells.push(PolicyCells::new(policy.name.try_clone(alloc)?))?;
-    }
-    Ok(cells)
 }
 
 impl Barrier for Board {}

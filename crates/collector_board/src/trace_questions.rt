@@ -24,12 +24,7 @@ struct TraceQuestion {
 
 impl TraceQuestion {
     /// No shard has answered.
-    fn new(
-        alloc: Global,
-        shards: usize,
-        trace: TraceId,
-        asked: u64,
-    ) -> Result<Self, AllocError> {
+    fn new(alloc: Global, shards: usize, trace: TraceId, asked: u64) -> Result<Self, AllocError> {
         Ok(TraceQuestion {
             trace,
             asked,
@@ -97,7 +92,11 @@ impl TraceQuestions {
         let mut questions = self.questions.lock(rt);
         let place = place_for(&questions, trace);
         if !stands_at(&questions, place, trace, now) {
-            put_at(&mut questions, place, TraceQuestion::new(alloc, self.shards, trace, now)?)?;
+            put_at(
+                &mut questions,
+                place,
+                TraceQuestion::new(alloc, self.shards, trace, now)?,
+            )?;
         }
         self.asked.store(now, Ordering::Relaxed);
         self.is_asked.store(true, Ordering::Relaxed);
