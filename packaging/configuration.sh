@@ -10,6 +10,14 @@ awk -v listen="$listen" '
         print "# requests are answered 503."
         next
     }
+    /^# For each trace that is decided or evicted/ && listen == "" {
+        print "# For each trace that is decided or evicted a line of JSON is appended to this file: its id, the verdict, and what each policy said. Once that has"
+        print "# 256 mebibytes it is renamed to decisions.jsonl.1, and so on; as many are kept as of the other."
+        getline
+        next
+    }
+    /^# decisions = / && listen == "" { $0 = "decisions = \"/var/log/tsc/decisions.jsonl\"" }
+    /^# decisions_max_mib = / && listen == "" { $0 = "decisions_max_mib = 256" }
     /^output_fault = / && listen == "" {
         print
         print ""

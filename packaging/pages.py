@@ -130,7 +130,8 @@ def command_page():
     usage = [it for command, _ in commands() for it in (bold(f"tsc {command}"), ".br")][:-1]
     files = (
         "| File | What it is |\n|---|---|\n| `/etc/tsc/serve.toml` | the configuration of the service `tsc` |\n"
-        "| `/var/log/tsc/traces.jsonl` | what the service keeps, and its report at each close |"
+        "| `/var/log/tsc/traces.jsonl` | what the service keeps, and its report at each close |\n"
+        "| `/var/log/tsc/decisions.jsonl` | why each trace was kept or not |"
     )
     return page(
         "TSC", 1, "User commands",

@@ -399,7 +399,6 @@ def held_traces(start):
     settings += "decision_cache = { sampled_cache_size = 2, non_sampled_cache_size = 1 }\n"
     collector = start(f'admin = "127.0.0.1:{admin}"\n' + settings + THREE)
     send = lambda *spans: want("the answer", collector.ask(post(body_of(spans)))[::2], (200, "{}"))
-    want("a trace whose id is none", looked_at(admin, path_of(0)), {"trace_id": "0" * 32, "state": "unknown", "held": {"state": "unknown"}})
     send(*trace(1, True, False, False, 2), *trace(2, False, False, False))
     comes_to("the decisions", lambda: decided_by(admin), 2)
     began = 1000 * time.time()
@@ -412,6 +411,7 @@ def held_traces(start):
     waits_by_hand(admin, 3, 3, began, 1000 * time.time())
     want("of one that never came", held_of(admin, 4), {"state": "unknown"})
     want("nobody looked when they were decided", [news_of(admin, number)["state"] for number in (1, 2, 3)], ["unknown"] * 3)
+    want("a trace whose id is none", looked_at(admin, path_of(0)), {"trace_id": "0" * 32, "state": "unknown", "held": {"state": "unknown"}})
     # Two that are decided drive the first two out of the buffer, and another two the one that waits and the first of these.
     send(*trace(5, True, False, False), *trace(6, True, False, False))
     comes_to("the decisions", lambda: decided_by(admin), 4)

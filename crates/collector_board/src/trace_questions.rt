@@ -1,5 +1,6 @@
 //! What those who look ask of the shards: what they hold of a trace.
-ghost use Rattle.std.specs.Prelude.{◌≡◌};
+ghost use Rattle.std.specs.Prelude.{◌≡◌, find, is_some, option_copied};
+ghost use Rattle.std.specs.List.{list_all};
 ghost use Rattle.collector_board.specs.Questions.{held_by_all, is_known, stands};
 
 use decision_line::TraceHeld;
@@ -176,14 +177,28 @@ fn is_known(answer: &Option<TraceHeld>) -> bool
     }
 }
 
+/// The answer of the first shard that knows the trace.
+fn first_known(answers: &[Option<TraceHeld>]) -> Option<&Option<TraceHeld>>
+    ensures { option_copied result ≡ find is_known answers.now }
+{
+    answers.iter().find(|answer| is_known(answer))
+}
+
+/// Whether each shard has answered.
+fn have_all_answered(answers: &[Option<TraceHeld>]) -> bool
+    ensures { result ≡ list_all is_some answers.now }
+{
+    answers.iter().all(|answer| answer.is_some())
+}
+
 /// What the shards hold of a trace, by what each of them answered: what the first says that knows it; that it is unknown,
 /// where all say so; else nothing yet.
 fn held_by_all(answers: &[Option<TraceHeld>]) -> Option<TraceHeld>
     ensures { result ≡ held_by_all answers.now }
 {
-    match answers.iter().find(|answer| is_known(answer)) {
-        Some(held) => *held,
-        None if answers.iter().all(|answer| answer.is_some()) => Some(TraceHeld::Unknown),
+    match first_known(answers) {
+        Some(known) => *known,
+        None if have_all_answered(answers) => Some(TraceHeld::Unknown),
         None => None,
     }
 }

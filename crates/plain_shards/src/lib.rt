@@ -11,9 +11,8 @@ pub use items::{Event, event_item, span_item};
 pub use lists::{one_policy, policy_on};
 use policy_tree::PolicyKind;
 use rate_budget::Budgets;
-use shard_core::{Shard, ShardSetup, Waits};
+use shard_core::{Shard, ShardSetup};
 use std::alloc::{AllocError, Global};
-use trace_hash::TraceHashing;
 
 /// A shard that decides by one policy of this kind, when a trace has waited so many milliseconds; it has room for so
 /// many traces, and remembers no decision. Beside it the limiter of that policy. `AllocError` where the policy is
@@ -32,18 +31,10 @@ pub fn plain_shard(
 {
     let policies = one_policy(alloc, kind)?;
     let limiter = Budgets::new(alloc, &policies)?;
-    let setup = ShardSetup {
-        hashing: TraceHashing::Fixed,
-        waits: Waits {
-            decision_wait,
-            root_wait: 0,
-            maximum_trace_size: 0,
-        },
-        num_traces: traces,
-        sampled_cache_size: 0,
-        non_sampled_cache_size: 0,
-        senders,
-    };
-    let shard = Shard::new(alloc, policies, setup)?;
+    let shard = Shard::new(
+        alloc,
+        policies,
+        ShardSetup::plain(decision_wait, traces, senders),
+    )?;
     Ok((shard, limiter))
 }

@@ -37,6 +37,34 @@ pub struct ShardSetup {
     pub senders: usize,
 }
 
+impl ShardSetup {
+    /// What a shard is made with of which no more is asked: its traces wait so many milliseconds, whatever they hold; it
+    /// has room for so many, and remembers no decision; and all hash trace ids alike. Tests change what they are about.
+    pub fn plain(decision_wait: Moment, num_traces: usize, senders: usize) -> ShardSetup
+        ensures { result ≡ record {
+          hashing = TraceHashing.Fixed;
+          waits = record { decision_wait = decision_wait; root_wait = 0; maximum_trace_size = 0 };
+          num_traces = num_traces;
+          sampled_cache_size = 0;
+          non_sampled_cache_size = 0;
+          senders = senders;
+        } }
+    {
+        ShardSetup {
+            hashing: TraceHashing::Fixed,
+            waits: Waits {
+                decision_wait,
+                root_wait: 0,
+                maximum_trace_size: 0,
+            },
+            num_traces,
+            sampled_cache_size: 0,
+            non_sampled_cache_size: 0,
+            senders,
+        }
+    }
+}
+
 /// The buffer and the cache of a shard that has taken nothing, and which of its senders have ended: none.
 pub(crate) fn nothing_held(
     alloc: Global,

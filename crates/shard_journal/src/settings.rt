@@ -1,4 +1,6 @@
 //! What a shard is made with.
+ghost use Rattle.std.specs.Prelude.{◌≡◌, None};
+
 use policy_tree::Policies;
 use span_ids::Moment;
 
@@ -20,4 +22,32 @@ pub struct Settings {
     pub non_sampled_cache_size: usize,
     /// The senders have the numbers below.
     pub senders: usize,
+}
+
+impl Settings {
+    /// These policies, this wait in milliseconds and so many senders; the rest is off or without a limit. Tests change
+    /// what they are about.
+    pub fn plain(policies: Policies, decision_wait: Moment, senders: usize) -> Settings
+        ensures { result ≡ record {
+          policies = policies;
+          decision_wait = decision_wait;
+          root_wait = 0;
+          maximum_trace_size = 0;
+          num_traces = None;
+          sampled_cache_size = 0;
+          non_sampled_cache_size = 0;
+          senders = senders;
+        } }
+    {
+        Settings {
+            policies,
+            decision_wait,
+            root_wait: 0,
+            maximum_trace_size: 0,
+            num_traces: None,
+            sampled_cache_size: 0,
+            non_sampled_cache_size: 0,
+            senders,
+        }
+    }
 }

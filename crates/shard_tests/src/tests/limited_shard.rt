@@ -7,9 +7,8 @@ ghost use Rattle.journal_theory.specs.Journal.{has_ids};
 use otlp_types::Item;
 use policy_tree::Policies;
 use rate_budget::Budgets;
-use shard_core::{Decided, Shard, ShardSetup, Taken, Waits};
+use shard_core::{Decided, Shard, ShardSetup, Taken};
 use std::alloc::{AllocError, Global};
-use trace_hash::TraceHashing;
 
 /// The numbers that a shard is made with: times in milliseconds, sizes in traces.
 #[derive(Clone, Copy)]
@@ -42,18 +41,15 @@ impl LimitedShard {
         numbers: Numbers,
     ) -> Result<LimitedShard, AllocError> {
         let limiter = Budgets::new(alloc, &policies)?;
-        let setup = ShardSetup {
-            hashing: TraceHashing::Fixed,
-            waits: Waits {
-                decision_wait: numbers.decision_wait,
-                root_wait: numbers.root_wait,
-                maximum_trace_size: numbers.maximum_trace_size,
-            },
-            num_traces: numbers.num_traces,
-            sampled_cache_size: numbers.sampled,
-            non_sampled_cache_size: numbers.non_sampled,
-            senders: numbers.senders,
-        };
+        let mut setup = ShardSetup::plain(
+            numbers.decision_wait,
+            numbers.num_traces,
+            numbers.senders,
+        );
+        setup.waits.root_wait = numbers.root_wait;
+        setup.waits.maximum_trace_size = numbers.maximum_trace_size;
+        setup.sampled_cache_size = numbers.sampled;
+        setup.non_sampled_cache_size = numbers.non_sampled;
         let shard = Shard::new(alloc, policies, setup)?;
         Ok(LimitedShard { shard, limiter })
     }

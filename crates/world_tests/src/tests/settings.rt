@@ -8,14 +8,7 @@ use shard_journal::Settings;
 pub fn plain_settings(policies: Policies) -> Settings
     ensures { result.num_traces ≡ Some 1 }
 {
-    Settings {
-        policies,
-        decision_wait: 10,
-        root_wait: 0,
-        maximum_trace_size: 0,
-        num_traces: Some(1),
-        sampled_cache_size: 0,
-        non_sampled_cache_size: 0,
-        senders: 2,
-    }
+    let mut settings = Settings::plain(policies, 10, 2);
+    settings.num_traces = Some(1);
+    settings
 }

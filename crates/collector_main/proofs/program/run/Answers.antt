@@ -22,7 +22,7 @@ returns-in-Compare g c =
     let arguments = map string_bytes c.args.arguments.now in
     let asked = subst (λ command. AsksFor arguments command) c.in-Compare.is c.in-Some.ensures.some in (
       file_of (λ v. v.items) c.read_file-in-Compare.result,
-      CameTo-does _ _ (Compare c.in-Compare.form) c.compare_by.result asked (file_of (λ v. v.items) c.read_file-2.result, c.compare_by.ensures arguments (g.Writer.Write.contents c.args.writer)),
+      CameTo-does _ _ (Compare c.in-Compare.form) c.compare_by.result asked (file_of (λ v. v.items) c.read_file-in-Compare-2.result, c.compare_by.ensures arguments (g.Writer.Write.contents c.args.writer)),
     )
 
 pub returns-in-Serve : goal.returns-in-Serve

@@ -1,0 +1,4 @@
+pub mod Arriving
+pub mod Connected
+pub mod Replayed
+mod Rows
