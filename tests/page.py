@@ -8,6 +8,7 @@ import http.client
 import json
 import pathlib
 import random
+import re
 import subprocess
 import sys
 import tempfile
@@ -180,6 +181,10 @@ def balance(page, collector):
     check("a name with markup is a text", policies[1][0].startswith(ODD))
     decided = sum(it for name, it in told.items() if name.startswith("tsc_traces_decided"))
     check("each decided trace is in one row", abs(sum(number(it[1]) + number(it[2]) for it in policies) - decided) < 2000)
+    page.until("document.getElementById('gauge-leaving').textContent.includes('given up')", 30)
+    waits, given_up = page.js("return [page.export.waiting_spans, page.export.given_up_batches]")
+    text = page.js("return document.getElementById('gauge-leaving').textContent")
+    check("what waits for the backend, and what was given up", (f"{waits:,} span" in text, f"{given_up:,} were given up" in text or not waits), (True, True))
     check("the chart has areas and a line", page.js("return [document.querySelectorAll('#chart path.received').length > 0, document.querySelectorAll('#chart path').length > 1]"), [True, True])
     check("single decisions have a link", page.js("return document.querySelector('nav a[href=\"#decisions\"]').hidden"), False)
     check("no error in the console", page.console(), [])
@@ -247,10 +252,19 @@ def why(page, collector):
     words = {"sample": "keep", "not_sample": "no", "not_asked": "wasn't asked", "inverted_sample": "nothing against it", "inverted_not_sample": "against"}
     check("what each policy said of it", [(it[0].removesuffix(" decided"), it[1]) for it in answers], [(it["policy"], words[it["answer"]]) for it in kept["answers"]])
     check("the one that decided", [it[0].removesuffix(" decided") for it in answers if it[0].endswith(" decided")], [kept["policy"]])
+    check("what its shard holds of it", bool(page.until("[...document.querySelectorAll('#found dd')].at(-1).textContent === 'decided, kept'")))
     page.shot("trace")
     page.js("document.getElementById('trace-id').value = arguments[0]", "0" * 31 + "1")
     page.driver.find_element(By.CSS_SELECTOR, "#ask button").click()
     check("one of which nothing is told", page.until("document.querySelector('#found .verdict')?.textContent === \"This trace isn't known\""))
+    check("no shard knows it", page.js("return [...document.querySelectorAll('#found dd')].at(-1).textContent"), "unknown to every shard")
+    waits = {"traceId": "ab" * 16, "parentSpanId": "cd" * 8, "startTimeUnixNano": "1", "endTimeUnixNano": "1"}
+    Sender(f"127.0.0.1:{collector.listen}").post(body_of([("cart", {**waits, "spanId": "ef" * 8}), ("cart", {**waits, "spanId": "ee" * 8})]))
+    page.js("document.getElementById('trace-id').value = arguments[0]", "ab" * 16)
+    page.driver.find_element(By.CSS_SELECTOR, "#ask button").click()
+    check("one that waits", page.until("document.querySelector('#found .verdict')?.textContent === 'It still waits'", 5))
+    check("since when, with its spans", bool(re.fullmatch(r"waits since \d\d:\d\d:\d\d, 2 spans\.", page.js("return document.querySelector('#found .verdict + p').textContent") or "")))
+    page.shot("waits")
     page.js("document.getElementById('trace-id').value = '12'")
     page.driver.find_element(By.CSS_SELECTOR, "#ask button").click()
     check("an id that is none", page.until("document.getElementById('ask-fault').textContent"), "A trace id has 32 digits from 0 to 9 and a to f.")

@@ -104,7 +104,8 @@ def counts_as_json(start):
     spans = lambda status: [status["spans"]["received"], status["spans"]["handed"], *(status["spans"]["dropped"][it] for it in REASONS), status["spans"]["waiting"]]
     status, fields, body = asked(admin, get("/status.json"))
     want("the answer", (status, fields["content-type"], int(fields["content-length"])), (200, "application/json", len(body)))
-    want("its keys", [list(json.loads(body)), list(json.loads(body)["spans"]["dropped"])], [["now_ms", "spans", "history"], REASONS])
+    want("its keys", [list(json.loads(body)), list(json.loads(body)["spans"]["dropped"])], [["now_ms", "spans", "export", "history"], REASONS])
+    want("what waits for a backend, where there is none", json.loads(body)["export"], None)
     want("the counts at the start", spans(json.loads(body)), [0] * 10)
     want("HEAD of it", asked(admin, get("/status.json", "HEAD"), False)[::2], (200, ""))
     for port in (metrics, collector.port):

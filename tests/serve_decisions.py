@@ -1,5 +1,5 @@
 """Checks of `tsc serve` whose decisions are told: a line for each trace that is decided or evicted, with what each policy said of it, and the last of them as
-JSON at the address for those in charge, from the first look on."""
+JSON at the address for those in charge, from the first look on, with what the shards hold of a trace."""
 
 import json
 import os
@@ -194,6 +194,26 @@ def looked_at(admin, path):
     return json.loads(body)
 
 
+def path_of(number):
+    """Where it is told what became of a trace."""
+    return f"/trace/{number:032x}.json"
+
+
+def news_of(admin, number):
+    """What became of a trace, as far as that was told."""
+    told = looked_at(admin, path_of(number))
+    want("the last key", list(told)[-1], "held")
+    return {key: value for key, value in told.items() if key != "held"}
+
+
+def held_of(admin, number):
+    """What the shards hold of a trace, once they have answered."""
+    end = time.monotonic() + PATIENCE
+    while (held := looked_at(admin, path_of(number))["held"]) is None and time.monotonic() < end:
+        time.sleep(0.05)
+    return held
+
+
 def decided_by(admin):
     """How many traces were decided."""
     return sum(number for name, number in scrape(admin).items() if name.startswith("tsc_traces_decided_total"))
@@ -246,11 +266,12 @@ def last_decisions(start):
             want("a trace", {**it, "decided_ms": 0, "wait_ms": 0}, told_of(number, *traces[number]))
             if not began <= it["decided_ms"] <= told["now_ms"] + 1000 or not 200 <= it["wait_ms"] < PATIENCE * 1000:
                 raise Failure(f"the moments of {it} at {told['now_ms']}")
-            want("the same trace by its id", looked_at(admin, f"/trace/{number:032X}.json"), it)
+            want("the same trace by its id", news_of(admin, number), it)
+            want("and by its id in capitals", {**looked_at(admin, f"/trace/{number:032X}.json"), "held": 0}, {**it, "held": 0})
         for number in range(21, 71):
-            want("a trace before the last hundred", {**looked_at(admin, f"/trace/{number:032x}.json"), "decided_ms": 0, "wait_ms": 0}, told_of(number, *traces[number]))
+            want("a trace before the last hundred", {**news_of(admin, number), "decided_ms": 0, "wait_ms": 0}, told_of(number, *traces[number]))
         for number in (0, 1, 20, 171, 2**128 - 1):
-            want("a trace of which nothing is told", looked_at(admin, f"/trace/{number:032x}.json"), {"trace_id": f"{number:032x}", "state": "unknown"})
+            want("a trace of which nothing is told", news_of(admin, number), {"trace_id": f"{number:032x}", "state": "unknown"})
         client.close()
         ask_in_charge(admin, "/close")
         collector.end()
@@ -270,11 +291,11 @@ def most_decisions(start):
     told = looked_at(admin, "/decisions.json")["decisions"]
     want("how many are told", len({it["trace_id"] for it in told}), 100)
     want("what they say", {(it["verdict"], it["policy"], it["ended_wait"], it["spans"]) for it in told}, {("kept", "all", "wait", 1)})
-    states = [looked_at(admin, f"/trace/{number:032x}.json")["state"] for number in range(1, 3001, 10)]
+    states = [news_of(admin, number)["state"] for number in range(1, 3001, 10)]
     want("the oldest", set(states[:50]), {"unknown"})
     if not 50 < states.count("decided") < 150:
         raise Failure(f"of 300 traces of 3000 these are remembered: {states}")
-    want("each that is told is found", [looked_at(admin, f"/trace/{it['trace_id']}.json") for it in told], told)
+    want("each that is told is found", [news_of(admin, int(it["trace_id"], 16)) for it in told], told)
     client.close()
     ask_in_charge(admin, "/close")
     collector.end()
@@ -285,22 +306,24 @@ def left_and_decided(start):
     admin = free_port()
     settings = "num_traces = 2\ndecision_wait_ms = 3600000\nroot_wait_ms = 50\nmaximum_trace_size_bytes = 2000\ntick_ms = 10\n"
     collector = start(f'admin = "127.0.0.1:{admin}"\n' + settings + ALL)
-    want("the first look", looked_at(admin, f"/trace/{4:032x}.json"), {"trace_id": f"{4:032x}", "state": "unknown"})
+    want("the first look", looked_at(admin, path_of(4)), {"trace_id": f"{4:032x}", "state": "unknown", "held": None})
     child = lambda number, span, **more: {"traceId": f"{number:032x}", "spanId": f"{span:016x}", "parentSpanId": f"{99:016x}", **more}
     for number in (4, 5, 6):
         collector.ask(post(body_of([child(number, 1), child(number, 2)])))
     comes_to("the evicted one", lambda: [{**it, "decided_ms": 0} for it in looked_at(admin, "/decisions.json")["decisions"]], [{"trace_id": f"{4:032x}", "state": "evicted", "decided_ms": 0, "spans": 2}])
-    want("the keys", list(looked_at(admin, f"/trace/{4:032x}.json")), ["trace_id", "state", "decided_ms", "spans"])
+    want("the keys", list(news_of(admin, 4)), ["trace_id", "state", "decided_ms", "spans"])
+    comes_to("what is held of it", lambda: held_of(admin, 4), {"state": "unknown"})
     collector.ask(post(body_of([child(7, 1, name="x" * 3000)])))
     said = lambda it: [int(it["trace_id"], 16), it["state"], *(it.get(key) for key in ("verdict", "because", "policy", "ended_wait", "spans"))]
     told = lambda: [said(it) for it in looked_at(admin, "/decisions.json")["decisions"]]
     big, left = [7, "decided", "not_kept", "too_big", None, "size", 1], lambda number: [number, "evicted", None, None, None, None, 2]
     comes_to("the big one", told, [big, left(5), left(4)])
-    want("what nobody was asked", looked_at(admin, f"/trace/{7:032x}.json")["answers"], [{"policy": "all", "answer": "not_asked"}])
+    want("what nobody was asked", news_of(admin, 7)["answers"], [{"policy": "all", "answer": "not_asked"}])
     collector.ask(post(body_of([{"traceId": f"{4:032x}", "spanId": f"{3:016x}"}])))
     again = [4, "decided", "kept", "policy", "all", "root", 1]
     comes_to("the one that came again", lambda: told()[:1], [again])
-    want("what is told of it", said(looked_at(admin, f"/trace/{4:032x}.json")), again)
+    want("what is told of it", said(news_of(admin, 4)), again)
+    comes_to("what is held of it", lambda: held_of(admin, 4), {"state": "decided", "verdict": "kept"})
     ask_in_charge(admin, "/close")
     collector.end()
 
@@ -317,6 +340,8 @@ def odd_looks(start):
     near = ["/decisions", "/decisions.json/", "/decisions.json?last=100", "/trace/", "/trace/.json", one[:-5], one.replace(".json", ".JSON"), f"/trace/{1:031x}.json", f"/trace/{1:033x}.json", f"/trace/g{1:031x}.json", "/trace" + one]
     for path in near:
         want(path, asked(admin, get(path))[::2], missing)
+    # What is told of it stays the same from here on.
+    want("what is held", held_of(admin, 1), {"state": "unknown"})
     for path in ("/decisions.json", one):
         want(f"HEAD of {path}", asked(admin, get(path, "HEAD"), False), asked(admin, get(path))[:2] + ("",))
         got = asked(admin, post(b"", path))
@@ -353,5 +378,101 @@ def told_for_a_minute(start):
     collector.end()
 
 
+def child(number, span, **more):
+    """A span of a trace whose root never comes."""
+    return {"traceId": f"{number:032x}", "spanId": f"{span:016x}", "parentSpanId": f"{99:016x}", "startTimeUnixNano": "1000000000", "endTimeUnixNano": "1000000000", **more}
+
+
+def waits_by_hand(admin, number, spans, began, ended):
+    """What is told of a trace that waits is since when it does, and how many spans it has."""
+    held = held_of(admin, number)
+    want("what is held", {**held, "since_ms": 0}, {"state": "waiting", "since_ms": 0, "spans": spans})
+    if not began - 1000 <= held["since_ms"] <= ended + 1000:
+        raise Failure(f"trace {number} waits since {held['since_ms']}, and came between {began} and {ended}")
+
+
+def held_traces(start):
+    """Of a trace it is told what the shard holds: it waits, it was decided and is in the buffer, a cache remembers it so, or it isn't known. To look
+    renews nothing: of two that are remembered the one that was decided first is forgotten, though somebody looked at it."""
+    admin = free_port()
+    settings = "num_traces = 3\ndecision_wait_ms = 3600000\nroot_wait_ms = 50\ntick_ms = 20\n"
+    settings += "decision_cache = { sampled_cache_size = 2, non_sampled_cache_size = 1 }\n"
+    collector = start(f'admin = "127.0.0.1:{admin}"\n' + settings + THREE)
+    send = lambda *spans: want("the answer", collector.ask(post(body_of(spans)))[::2], (200, "{}"))
+    send(*trace(1, True, False, False, 2), *trace(2, False, False, False))
+    comes_to("the decisions", lambda: decided_by(admin), 2)
+    began = 1000 * time.time()
+    send(child(3, 1), child(3, 2))
+    send(child(3, 3))
+    kept, not_kept = {"state": "decided", "verdict": "kept"}, {"state": "decided", "verdict": "not_kept"}
+    comes_to("what is held of the kept one", lambda: held_of(admin, 1), kept)
+    comes_to("of the other one", lambda: held_of(admin, 2), not_kept)
+    comes_to("of the one that waits", lambda: (held_of(admin, 3) or {}).get("spans"), 3)
+    waits_by_hand(admin, 3, 3, began, 1000 * time.time())
+    want("of one that never came", held_of(admin, 4), {"state": "unknown"})
+    want("nobody looked when they were decided", [news_of(admin, number)["state"] for number in (1, 2, 3)], ["unknown"] * 3)
+    want("a trace whose id is none", looked_at(admin, path_of(0)), {"trace_id": "0" * 32, "state": "unknown", "held": {"state": "unknown"}})
+    # Two that are decided drive the first two out of the buffer, and another two the one that waits and the first of these.
+    send(*trace(5, True, False, False), *trace(6, True, False, False))
+    comes_to("the decisions", lambda: decided_by(admin), 4)
+    comes_to("what is remembered of the kept one", lambda: held_of(admin, 1), {"state": "remembered", "verdict": "kept"})
+    comes_to("of the other one", lambda: held_of(admin, 2), {"state": "remembered", "verdict": "not_kept"})
+    want("a new one is held", held_of(admin, 6), kept)
+    send(*trace(7, True, False, False), *trace(8, True, False, False))
+    comes_to("the decisions", lambda: decided_by(admin), 6)
+    comes_to("the one that waited, and left", lambda: held_of(admin, 3), {"state": "unknown"})
+    # Nobody asks for trace 5: so it would be the first that goes, if looks renewed trace 1.
+    want("the first is remembered", held_of(admin, 1), {"state": "remembered", "verdict": "kept"})
+    send(*trace(9, True, False, False))
+    comes_to("the decisions", lambda: decided_by(admin), 7)
+    comes_to("the first is forgotten", lambda: held_of(admin, 1), {"state": "unknown"})
+    for number in (5, 6):
+        comes_to("the others are remembered", lambda it=number: held_of(admin, it), {"state": "remembered", "verdict": "kept"})
+    want("what is told of the last one", news_of(admin, 9)["verdict"], "kept")
+    ask_in_charge(admin, "/close")
+    collector.end()
+
+
+def held_by_several(start):
+    """Whichever shard has a trace, it is told what it holds; that a trace isn't known only once each has said so."""
+    rng, admin = random.Random(73), free_port()
+    collector = start(f'admin = "127.0.0.1:{admin}"\nshards = 4\nlanes = 2\ndecision_wait_ms = 3600000\ntick_ms = 20\n' + THREE)
+    traces = {number: rng.randrange(1, 6) for number in range(1, 41)}
+    began = 1000 * time.time()
+    collector.ask(post(body_of([span for number, spans in traces.items() for span in trace(number, False, False, False, spans)])))
+    ended = 1000 * time.time()
+    comes_to("the spans that wait", lambda: sum(it for name, it in scrape(admin).items() if name.startswith("tsc_shard_spans")), sum(traces.values()))
+    for number in rng.sample(sorted(traces), 12):
+        waits_by_hand(admin, number, traces[number], began, ended)
+    for number in (41, 42, 2**127):
+        want("one that never came", held_of(admin, number), {"state": "unknown"})
+    ask_in_charge(admin, "/close")
+    collector.end()
+
+
+def questions_end(start):
+    """Eight traces are asked for at a time, and a further one takes the place of that which was asked for longest ago; a question ends ten seconds after it
+    was asked last."""
+    admin = free_port()
+    collector = start(f'admin = "127.0.0.1:{admin}"\ntick_ms = 20\n' + ALL)
+    began = time.monotonic()
+    for number in range(1, 9):
+        want("none is answered at once", looked_at(admin, path_of(number))["held"], None)
+    unknown = {"state": "unknown"}
+    for number in range(1, 9):
+        want("each of eight", held_of(admin, number), unknown)
+    first = looked_at(admin, path_of(1))["held"]
+    want("a ninth", looked_at(admin, path_of(9))["held"], None)
+    second = looked_at(admin, path_of(2))["held"]
+    if time.monotonic() < began + 9:
+        want("the first, which was asked for again, and the one after it, whose place was taken", (first, second), (unknown, None))
+    want("it is answered again", held_of(admin, 2), unknown)
+    time.sleep(11)
+    want("a question that has ended", looked_at(admin, path_of(2))["held"], None)
+    want("and is asked again", held_of(admin, 2), unknown)
+    ask_in_charge(admin, "/close")
+    collector.end()
+
+
 CHECKS = [each_decided, each_cause, late_spans, rotated, all_at_the_close, decisions_cannot_be_written, decisions_of_a_full_disk]
-CHECKS += [last_decisions, most_decisions, left_and_decided, odd_looks, told_for_a_minute]
+CHECKS += [last_decisions, most_decisions, left_and_decided, odd_looks, told_for_a_minute, held_traces, held_by_several, questions_end]

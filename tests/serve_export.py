@@ -226,6 +226,27 @@ def tells_attempts(start):
     want("the report", collector.end()[1], [3, 2, 0, 0, 0, 0, 0, 0, 1])
 
 
+def backlog_told(start):
+    """/status.json tells what waits for the backend: the spans of all batches, for how long one is sent, how many of its tries failed, how many batches were
+    given up."""
+    backend, admin = Backend([[answer(503)], [answer(429)], 5.0]), free_port()
+    collector = start(FAST + "send_batch_size = 4\n" + ALL + f'admin = "127.0.0.1:{admin}"\n' + backend.settings())
+    told = lambda: json.loads(asked(admin, get("/status.json"))[2])["export"]
+    idle = {"waiting_spans": 0, "under_way_s": 0, "failed_tries": 0, "given_up_batches": 0}
+    want("what waits at the start", told(), idle)
+    send(collector, 0, 19)
+    until("the third try", lambda: len(backend.requests) == 3)
+    comes_to("what waits for it", lambda: {**told(), "under_way_s": 0}, {**idle, "waiting_spans": 19, "failed_tries": 2})
+    until("two seconds of it", lambda: told()["under_way_s"] >= 2)
+    comes_to("what waits then", told, idle)
+    want("what arrived", sorted(number for body in backend.taken for number in ids_in(body)), [f"{number + 1:016x}" for number in range(19)])
+    backend.script.append([answer(400)])
+    send(collector, 19)
+    comes_to("what is told of one that is given up", told, {**idle, "given_up_batches": 1})
+    want("the answer to /close", asked(admin, post(b"", "/close"))[::2], (200, "{}"))
+    want("the report", collector.end()[1], [20, 19, 0, 0, 0, 0, 0, 0, 1])
+
+
 def no_answers(start):
     """What breaks off after any byte, is too long or is framed twice is no answer, and the line is sent again; up to the connection's end is one."""
     script = [(OK[:end],) for end in range(len(OK))]
@@ -503,5 +524,5 @@ def asks_again(client, request):
     return status == 200
 
 
-CHECKS = [delivers, sends_headers, prints_too, printing_ends, no_time_is_no_wish, tries_again, tells_attempts, no_answers, gives_up, rejected_spans, waits_for_a_backend, late_answer, patience_ends, under_load]
+CHECKS = [delivers, sends_headers, prints_too, printing_ends, no_time_is_no_wish, tries_again, tells_attempts, backlog_told, no_answers, gives_up, rejected_spans, waits_for_a_backend, late_answer, patience_ends, under_load]
 CHECKS += [waits_grow, short_waits, long_answers, ends_behind_its_answers, reads_no_line, trickling_answer, closes_while_it_waits, closes_while_it_hangs, told_behind_a_loss]

@@ -1,3 +1,6 @@
 -- Stalls: for how long a write has been under way. Looks: for how long decisions are told after somebody looked.
+-- Backlog: what waits for the backend. Questions: for how long a question stands, and how the answers of all shards make one.
+pub mod Backlog
 pub mod Looks
+pub mod Questions
 pub mod Stalls

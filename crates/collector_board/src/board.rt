@@ -1,16 +1,19 @@
 //! What all threads of a run have counted, for readers while it runs.
-use crate::cells::{PolicyCells, ShardCells};
+use crate::cells::{PolicyCells, ShardCells, policy_cells};
 use crate::decision_listeners::DecisionListeners;
 use crate::decision_queue::DecisionQueue;
+use crate::export_progress::ExportProgress;
 use crate::record_queue::RecordQueue;
+use crate::trace_questions::TraceQuestions;
 use batch_post::AttemptOutcome;
-use decision_line::{DecidedTrace, EvictedTrace, LateSpans, Said};
+use decision_line::{DecidedTrace, EvictedTrace, LateSpans, Said, TraceHeld};
 use drop_ledger::{Count, Report};
 use event_log::Level;
 use lane_queue::Brake;
 use metrics_text::{PolicyNumbers, ShardNumbers};
 use otlp_types::{Text, TryClone};
 use policy_tree::Policies;
+use span_ids::TraceId;
 use std::alloc::{AllocError, Global};
 use std::sync::Wait;
 use std::sync::atomic::{AtomicBool, AtomicU64, Ordering};
@@ -65,6 +68,10 @@ pub struct Board {
     failing_code: AtomicU64,
     /// To whom decisions are told.
     listeners: DecisionListeners,
+    /// What is asked of the shards.
+    questions: TraceQuestions,
+    /// How the backend takes what is sent to it.
+    export: ExportProgress,
     /// Where what came waits until it is written, if it is.
     record: Option<RecordQueue>,
 }
@@ -105,6 +112,8 @@ impl Board {
             failing_since: AtomicU64::new(0),
             failing_code: AtomicU64::new(0),
             listeners: DecisionListeners::new(alloc, policies)?,
+            questions: TraceQuestions::new(alloc, shards),
+            export: ExportProgress::new(),
             record: None,
         })
     }
@@ -133,6 +142,16 @@ impl Board {
     /// To whom decisions are told.
     pub fn listeners(&self) -> &DecisionListeners {
         &self.listeners
+    }
+
+    /// What is asked of the shards.
+    pub fn questions(&self) -> &TraceQuestions {
+        &self.questions
+    }
+
+    /// How the backend takes what is sent to it.
+    pub fn export(&self) -> &ExportProgress {
+        &self.export
     }
 
     /// The counts as they are now.
@@ -360,17 +379,6 @@ impl Board {
     }
 }
 
-/// Cells for what no policy decides, and then for what each does, in order.
-fn policy_cells(alloc: Global, policies: &Policies) -> Result<Vec<PolicyCells>, AllocError> {
-    let mut cells = Vec::new(alloc);
-    // For what no policy decides, such as a trace that is too big (D-040, D-066).
-    cells.push(PolicyCells::new(Text::new(alloc)))?;
-    for policy in policies.as_slice() {
-        cells.push(PolicyCells::new(policy.name.try_clone(alloc)?))?;
-    }
-    Ok(cells)
-}
-
 impl Barrier for Board {}
 
 impl Watcher for Board {
@@ -421,6 +429,18 @@ impl Watcher for Board {
 
     fn spans_late<R: Wait>(&self, rt: &R, late: &LateSpans) {
         self.listeners.late(rt, late);
+    }
+
+    fn asks_for_traces(&self) -> bool {
+        self.questions.is_asked()
+    }
+
+    fn asked_trace<R: Wait>(&self, rt: &R, place: usize) -> Option<TraceId> {
+        self.questions.trace_at(rt, place)
+    }
+
+    fn trace_held<R: Wait>(&self, rt: &R, shard: u16, trace: TraceId, held: TraceHeld) {
+        self.questions.answer(rt, shard, trace, held);
     }
 
     fn handed_late(&self) {

@@ -1,5 +1,7 @@
 //! What is told of a shard and of a policy while a run goes on.
-use otlp_types::Text;
+use otlp_types::{Text, TryClone};
+use policy_tree::Policies;
+use std::alloc::{AllocError, Global};
 use std::sync::atomic::AtomicU64;
 
 /// What a shard told last of what it holds.
@@ -40,4 +42,15 @@ impl PolicyCells {
             not_sampled: AtomicU64::new(0),
         }
     }
+}
+
+/// Cells for what no policy decides, and then for what each does, in order.
+pub fn policy_cells(alloc: Global, policies: &Policies) -> Result<Vec<PolicyCells>, AllocError> {
+    let mut cells = Vec::new(alloc);
+    // For what no policy decides, such as a trace that is too big (D-040, D-066).
+    cells.push(PolicyCells::new(Text::new(alloc)))?;
+    for policy in policies.as_slice() {
+        cells.push(PolicyCells::new(policy.name.try_clone(alloc)?))?;
+    }
+    Ok(cells)
 }

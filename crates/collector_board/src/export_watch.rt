@@ -13,8 +13,9 @@ pub struct ExportWatch<'s> {
 }
 
 impl<'s> ExportWatch<'s> {
-    /// With this mark and this board.
+    /// With this mark and this board, which tells from now on how a backend takes what is sent.
     pub fn new(stop: &'s StopMark, board: &'s Board) -> Self {
+        board.export().begins();
         ExportWatch { stop, board }
     }
 }
@@ -26,9 +27,11 @@ impl<'s> Watch for ExportWatch<'s> {
 
     fn attempted(&self, outcome: AttemptOutcome) {
         self.board.attempts(outcome);
+        self.board.export().tried(outcome);
     }
 
     fn settled(&self, bytes: u64, fate: BatchFate) {
+        self.board.export().settled(fate);
         if fate == BatchFate::Delivered {
             self.board.delivered(bytes);
         }

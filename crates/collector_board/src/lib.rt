@@ -1,5 +1,5 @@
 //! What the threads of a collector that runs tell one another: the board of its counts, the mark to stop and who set it,
-//! for how long a write has been under way, what became of which trace, and what came; and what writes there beside its work: the output, and what sends batches.
+//! for how long a write has been under way, what became of which trace, what shards hold of one, and what came; and what writes there beside its work: the output, and what sends batches.
 //!
 //! ```
 //! let board = Board::new(alloc, config.shards, &config.policies)?;
@@ -13,11 +13,13 @@ mod cells;
 mod decision_listeners;
 mod decision_queue;
 mod decision_ring;
+mod export_progress;
 mod export_watch;
 mod output_stall;
 mod record_queue;
 mod stop_mark;
 mod stopping_sink;
+mod trace_questions;
 mod watched_destination;
 mod write_watch;
 
@@ -25,10 +27,12 @@ pub use board::Board;
 pub use decision_listeners::{DecisionListeners, LOOKED_FOR};
 pub use decision_queue::{DecisionQueue, LineNews};
 pub use decision_ring::{DecisionRing, REMEMBERED};
+pub use export_progress::{ExportProgress, left_by};
 pub use export_watch::ExportWatch;
 pub use output_stall::OutputStall;
 pub use record_queue::{Came, RecordQueue, TakenRequest};
 pub use stop_mark::{Closer, StopMark};
 pub use stopping_sink::StoppingSink;
+pub use trace_questions::TraceQuestions;
 pub use watched_destination::WatchedDestination;
 pub use write_watch::WriteWatch;

@@ -6,14 +6,16 @@ use crate::history::History;
 use crate::lines_of::LinesOf;
 use crate::wall_clock::WallClock;
 use admin_http::Admin;
-use collector_board::{Board, Closer, OutputStall, REMEMBERED, StopMark};
+use collector_board::{Board, Closer, OutputStall, REMEMBERED, StopMark, left_by};
 use decision_json::{decisions_text, trace_text};
+use decision_line::TraceHeld;
 use http_lane::{Clock as Moments, HasStopMark};
 use lane_driver::Loads;
 use metrics_text::{Metrics, metrics_text};
 use otlp_types::Text;
 use output_file::ReopenMark;
-use status_json::{Status, status_text};
+use span_ids::TraceId;
+use status_json::{Backlog, Status, status_text};
 use std::alloc::{AllocError, Global};
 use std::io::Read;
 use std::rt::Files;
@@ -73,6 +75,25 @@ impl Charge {
     pub fn removes_sockets<R: Files>(&self, rt: &R) {
         end_admin(rt, self.admin.as_str());
         end_admin(rt, self.metrics_address.as_str());
+    }
+
+    /// What of the spans that wait does so for the backend, where there is one.
+    fn backlog<R: Clock>(
+        &self,
+        rt: &R,
+        alloc: Global,
+        waiting: u64,
+    ) -> Result<Option<Backlog>, AllocError> {
+        let export = self.board.export();
+        if !export.is_on() {
+            return Ok(None);
+        }
+        Ok(Some(Backlog {
+            waiting: left_by(waiting, &self.board.shards(alloc)?),
+            under_way: self.stall.seconds(rt),
+            failed_tries: export.failed_tries(),
+            given_up: export.given_up(),
+        }))
     }
 
     /// The numbers now, of a collector that has been at work since then.
@@ -152,6 +173,16 @@ impl<'c, R: Clock + Wait> InCharge<'c, R> {
             is_reopened: false,
         }
     }
+
+    /// What the shards hold of the trace whose id has these bytes, as far as they have answered: they are asked now.
+    fn held(&self, alloc: Global, id: &[u8], now: u64) -> Result<Option<TraceHeld>, AllocError> {
+        let Some(trace) = TraceId::from_bytes(id) else {
+            // No span has such an id.
+            return Ok(Some(TraceHeld::Unknown));
+        };
+        let questions = self.charge.board.questions();
+        questions.ask(self.rt, alloc, trace, now)
+    }
 }
 
 impl<'c, R: Clock + Wait> Admin for InCharge<'c, R> {
@@ -196,10 +227,12 @@ impl<'c, R: Clock + Wait> Admin for InCharge<'c, R> {
     }
 
     fn status(&self, alloc: Global) -> Result<String, AllocError> {
+        let waiting = self.charge.board.waiting();
         let status = Status {
             now: WallClock::new(self.rt).now(),
             report: self.charge.board.report(),
-            waiting: self.charge.board.waiting(),
+            waiting,
+            backlog: self.charge.backlog(self.rt, alloc, waiting)?,
         };
         let rows = self.charge.history.rows(alloc)?;
         let text = status_text(alloc, &status, &rows)?;
@@ -218,7 +251,8 @@ impl<'c, R: Clock + Wait> Admin for InCharge<'c, R> {
         let now = WallClock::new(self.rt).now();
         let listeners = self.charge.board.listeners();
         let news = listeners.look(self.rt, alloc, now, REMEMBERED)?;
-        let text = trace_text(alloc, listeners.names(), &id, &news)?;
+        let held = self.held(alloc, &id, now)?;
+        let text = trace_text(alloc, listeners.names(), &id, &news, held)?;
         Ok(text)
     }
 

@@ -97,6 +97,7 @@ fn watch<W: Write + Drop, R: Wait + Clock>(
         }
         charge.history.looks(wall, charge.board.report());
         charge.board.listeners().passes(wall);
+        charge.board.questions().passes(wall);
         look_at_numbers(rt, alloc, &mut events, charge, &mut known, now);
         look_at_backend(rt, alloc, &mut events, charge, &mut known, now);
         look_at_output(rt, alloc, &mut events, charge, &mut known, now);

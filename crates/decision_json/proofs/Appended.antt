@@ -1,10 +1,13 @@
 -- Tokens that are written one after the other. For the contracts of all functions that write.
-use Rattle.std.proofs.Common.{◌≡◌, ◌++◌, ◌∷◌, ℕ, List, [], ap, ◌∙◌, append_assoc, subst}
+use Rattle.std.proofs.Common.{◌≡◌, ◌++◌, ◌∷◌, ℕ, List, [], ap, ◌∙◌, append_assoc, refl, subst}
 use Rattle.std.specs.Prelude.{Result, Ok, Err, codes, decimal}
-use Rattle.json.specs.Token.{Token, begin_object, key, number, string}
+use Rattle.json.specs.Json.{Json, object}
+use Rattle.json.specs.Token.{Token, begin_object, end_object, key, number, string}
+use Rattle.json.specs.Tree.{json_tokens, members_tokens}
 use Rattle.json.specs.Written.{Written, Writes}
 use Rattle.span_ids.specs.Id.{id_text}
-use Rattle.decision_json.specs.Putting.{PutsAll}
+use Rattle.decision_line.specs.Line.{members_of}
+use Rattle.decision_json.specs.Putting.{PutsAll, begun, member_tokens}
 
 -- one token was written
 pub puts-one : {E : Type 0} (result : Result (Unit {0}) E) (old new : Written) (token : Token) → Writes result old new token → PutsAll result old new (token ∷ [])
@@ -32,3 +35,21 @@ trace-as old new id other e h = h ∙ ap (λ (i : List ℕ). old ++ begin_object
 -- these tokens, by another spelling of them
 pub puts-as : {E : Type 0} (result : Result (Unit {0}) E) (old new : Written) (tokens other : List Token) → tokens ≡ other → PutsAll result old new tokens → PutsAll result old new other
 puts-as {E} result old new tokens other e h = subst (λ (ts : List Token). PutsAll {E = E} result old new ts) e h
+
+-- the members, and the end of their object
+ended-members : (ms : List (List ℕ × Json)) → member_tokens ms ++ end_object ∷ [] ≡ members_tokens (members_of ms)
+ended-members [] = refl
+ended-members (m ∷ ms) = ap (λ (ts : List Token). key m.0 ∷ ts) (append_assoc (json_tokens m.1) (member_tokens ms) (end_object ∷ []) ∙ ap (λ (ts : List Token). json_tokens m.1 ++ ts) (ended-members ms))
+
+pub ended : (ms : List (List ℕ × Json)) → begun ms ++ end_object ∷ [] ≡ json_tokens (object (members_of ms))
+ended ms = ap (λ (ts : List Token). begin_object ∷ ts) (ended-members ms)
+
+-- the members, one more, and the end of their object
+ended-members-by : (ms : List (List ℕ × Json)) (name : List ℕ) (value : Json) → member_tokens ms ++ key name ∷ (json_tokens value ++ end_object ∷ []) ≡ members_tokens (members_of (ms ++ (name, value) ∷ []))
+ended-members-by [] name value = refl
+ended-members-by (m ∷ ms) name value =
+    ap (λ (ts : List Token). key m.0 ∷ ts)
+    (append_assoc (json_tokens m.1) (member_tokens ms) (key name ∷ (json_tokens value ++ end_object ∷ [])) ∙ ap (λ (ts : List Token). json_tokens m.1 ++ ts) (ended-members-by ms name value))
+
+pub ended-by : (ms : List (List ℕ × Json)) (name : List ℕ) (value : Json) → begun ms ++ key name ∷ (json_tokens value ++ end_object ∷ []) ≡ json_tokens (object (members_of (ms ++ (name, value) ∷ [])))
+ended-by ms name value = ap (λ (ts : List Token). begin_object ∷ ts) (ended-members-by ms name value)

@@ -1,6 +1,6 @@
 -- Worked rows, computed: whole texts, and the one trace that is found. No two of the values of a text are the same.
 -- They serve the definitions that `decisions_text` and `trace_text` promise.
-use Rattle.std.proofs.Common.{◌≡◌, ◌++◌, refl, ℕ, List, [], ◌∷◌}
+use Rattle.std.proofs.Common.{◌≡◌, ◌++◌, ◌-◌, refl, ℕ, List, [], ◌∷◌, length, take}
 use Rattle.std.specs.Prelude.{Some, None, codes}
 use Rattle.std.specs.Fmt.{digits}
 use Rattle.hex.specs.Hex.{encode_with}
@@ -8,6 +8,7 @@ use Rattle.json.specs.Print.{escape_byte, print_from}
 use Rattle.span_ids.specs.declared.outcome.Verdict.TheVariants as verdict
 use Rattle.decision_line.specs.declared.decision.DueCause.TheVariants.{Wait, RootWait, Size, Close}
 use Rattle.decision_line.specs.declared.decision.Said.TheVariants.{Sampled, NotSampled, InvertedSampled, InvertedNotSampled, Dropped, NotAsked}
+use Rattle.decision_line.specs.declared.held.TraceHeld.TheVariants.{Waiting, Decided as HeldDecided, Remembered, Unknown}
 use Rattle.decision_line.specs.Line.{line_of}
 use Rattle.decision_json.specs.declared.news.TraceNews.{TraceNews}
 use Rattle.decision_json.specs.declared.news.TraceNews.TheVariants.{Decided, Evicted}
@@ -64,21 +65,32 @@ without_policies : line_of
 unfolding digits encode_with escape_byte print_from first_id second_id
 without_policies = refl
 
+-- the text without its last byte
+abbrev but_for_its_end : List ℕ → List ℕ
+but_for_its_end text = take (length text - 1) text
+
 -- the newest of a trace of which two are remembered, the other one, and one of which none is
-found : line_of (trace_value names second_id (by_second ∷ by_none ∷ left ∷ [])) ≡ of_none ++ codes "\n"
+found : line_of (trace_value names second_id (by_second ∷ by_none ∷ left ∷ []) (Some (HeldDecided verdict.NotSampled)))
+    ≡ but_for_its_end of_none ++ codes ",\"held\":{\"state\":\"decided\",\"verdict\":\"not_kept\"}}\n"
 unfolding digits encode_with escape_byte print_from names first_id second_id by_second by_none left of_none
 found = refl
 
-found_behind : line_of (trace_value names first_id (left ∷ by_none ∷ by_second ∷ [])) ≡ of_second ++ codes "\n"
+found_behind : line_of (trace_value names first_id (left ∷ by_none ∷ by_second ∷ []) (Some (Remembered verdict.Sampled)))
+    ≡ but_for_its_end of_second ++ codes ",\"held\":{\"state\":\"remembered\",\"verdict\":\"kept\"}}\n"
 unfolding digits encode_with escape_byte print_from names first_id second_id by_second by_none left of_second
 found_behind = refl
 
-found_evicted : line_of (trace_value names second_id (left ∷ by_none ∷ []))
-    ≡ codes "{\"trace_id\":\"000102030405060708090a0b0c0d0e0f\",\"state\":\"evicted\",\"decided_ms\":900,\"spans\":3}\n"
+found_evicted : line_of (trace_value names second_id (left ∷ by_none ∷ []) (Some (Waiting 1700000031234 11)))
+    ≡ codes "{\"trace_id\":\"000102030405060708090a0b0c0d0e0f\",\"state\":\"evicted\",\"decided_ms\":900,\"spans\":3,\"held\":{\"state\":\"waiting\",\"since_ms\":1700000031234,\"spans\":11}}\n"
 unfolding digits encode_with escape_byte print_from names second_id by_none left
 found_evicted = refl
 
-found_none : line_of (trace_value names (16 ∷ 17 ∷ 18 ∷ 19 ∷ 20 ∷ 21 ∷ 22 ∷ 23 ∷ 24 ∷ 25 ∷ 26 ∷ 27 ∷ 28 ∷ 29 ∷ 30 ∷ 31 ∷ []) (left ∷ by_second ∷ []))
-    ≡ codes "{\"trace_id\":\"101112131415161718191a1b1c1d1e1f\",\"state\":\"unknown\"}\n"
+found_none : line_of (trace_value names (16 ∷ 17 ∷ 18 ∷ 19 ∷ 20 ∷ 21 ∷ 22 ∷ 23 ∷ 24 ∷ 25 ∷ 26 ∷ 27 ∷ 28 ∷ 29 ∷ 30 ∷ 31 ∷ []) (left ∷ by_second ∷ []) (Some Unknown))
+    ≡ codes "{\"trace_id\":\"101112131415161718191a1b1c1d1e1f\",\"state\":\"unknown\",\"held\":{\"state\":\"unknown\"}}\n"
 unfolding digits encode_with escape_byte print_from first_id second_id by_second left
 found_none = refl
+
+-- the shards haven't all answered yet
+not_answered : line_of (trace_value [] second_id [] None) ≡ codes "{\"trace_id\":\"000102030405060708090a0b0c0d0e0f\",\"state\":\"unknown\",\"held\":null}\n"
+unfolding digits encode_with escape_byte print_from second_id
+not_answered = refl

@@ -4,8 +4,8 @@ ghost use Rattle.json.specs.Token.{begin_object, key, number, string};
 ghost use Rattle.json.specs.Tree.{items_tokens, json_tokens};
 ghost use Rattle.span_ids.specs.Id.{id_text};
 ghost use Rattle.decision_line.specs.Line.{decider_value};
-ghost use Rattle.decision_json.specs.Putting.{IsCounted, PutsAll};
-ghost use Rattle.decision_json.specs.Value.{answer_items, answer_value, decided_value, evicted_value, news_value};
+ghost use Rattle.decision_json.specs.Putting.{IsCounted, PutsAll, begun};
+ghost use Rattle.decision_json.specs.Value.{answer_items, answer_value, decided_members, evicted_members, news_members, news_value};
 
 use crate::news::TraceNews;
 use crate::words::{answer_word, because_word, ended_word, kept_word};
@@ -75,15 +75,15 @@ fn put_answers(writer: &mut Writer, names: &[String], said: &[Said]) -> Result<(
     writer.end_array()
 }
 
-/// Writes a decided trace.
-fn put_decided(
+/// Writes a decided trace, but for the end of its object.
+fn begin_decided(
     writer: &mut Writer,
     alloc: Global,
     names: &[String],
     said: &[Said],
     decision: &DecidedTrace,
 ) -> Result<(), AllocError>
-    ensures tokens { PutsAll result writer.old writer.new (json_tokens (decided_value (map string_bytes names.now) said.now decision.now)) }
+    ensures tokens { PutsAll result writer.old writer.new (begun (decided_members (map string_bytes names.now) said.now decision.now)) }
     ensures range { OnOk result ((decision.now.moment < 2 ^ 64) × (decision.now.spans < 2 ^ 64)) }
 {
     begin_trace(writer, alloc, &decision.trace.bytes())?;
@@ -99,20 +99,42 @@ fn put_decided(
     put_text(writer, "ended_wait", ended_word(decision.cause))?;
     writer.key("answers")?;
     writer.begin_array()?;
-    put_answers(writer, names, said)?;
-    writer.end_object()
+    put_answers(writer, names, said)
 }
 
-/// Writes an evicted trace.
-fn put_evicted(writer: &mut Writer, alloc: Global, evicted: &EvictedTrace) -> Result<(), AllocError>
-    ensures tokens { PutsAll result writer.old writer.new (json_tokens (evicted_value evicted.now)) }
+/// Writes an evicted trace, but for the end of its object.
+fn begin_evicted(
+    writer: &mut Writer,
+    alloc: Global,
+    evicted: &EvictedTrace,
+) -> Result<(), AllocError>
+    ensures tokens { PutsAll result writer.old writer.new (begun (evicted_members evicted.now)) }
     ensures range { OnOk result ((evicted.now.moment < 2 ^ 64) × (evicted.now.spans < 2 ^ 64)) }
 {
     begin_trace(writer, alloc, &evicted.trace.bytes())?;
     put_text(writer, "state", "evicted")?;
     put_count(writer, "decided_ms", evicted.moment)?;
-    put_count(writer, "spans", evicted.spans)?;
-    writer.end_object()
+    put_count(writer, "spans", evicted.spans)
+}
+
+/// Writes what became of a trace, but for the end of its object.
+pub fn begin_news(
+    writer: &mut Writer,
+    alloc: Global,
+    names: &[String],
+    news: &TraceNews,
+) -> Result<(), AllocError>
+    ensures tokens { PutsAll result writer.old writer.new (begun (news_members (map string_bytes names.now) news.now)) }
+    ensures range { OnOk result (IsCounted news.now) }
+{
+    match news {
+        TraceNews::Decided { trace, said, asked } => {
+            let said = said.as_slice();
+            let asked = (*asked).min(said.len());
+            begin_decided(writer, alloc, names, &said[..asked], trace)
+        }
+        TraceNews::Evicted(trace) => begin_evicted(writer, alloc, trace),
+    }
 }
 
 /// Writes what became of a trace.
@@ -125,12 +147,6 @@ pub fn put_news(
     ensures tokens { PutsAll result writer.old writer.new (json_tokens (news_value (map string_bytes names.now) news.now)) }
     ensures range { OnOk result (IsCounted news.now) }
 {
-    match news {
-        TraceNews::Decided { trace, said, asked } => {
-            let said = said.as_slice();
-            let asked = (*asked).min(said.len());
-            put_decided(writer, alloc, names, &said[..asked], trace)
-        }
-        TraceNews::Evicted(trace) => put_evicted(writer, alloc, trace),
-    }
+    begin_news(writer, alloc, names, news)?;
+    writer.end_object()
 }

@@ -4,11 +4,13 @@ ghost use Rattle.json.specs.Print.{print};
 ghost use Rattle.json.specs.Tree.{items_tokens, json_tokens};
 ghost use Rattle.decision_line.specs.Line.{ReadsBack, line_of};
 ghost use Rattle.decision_json.specs.News.{newest_of};
-ghost use Rattle.decision_json.specs.Putting.{AreCounted, IsCounted, PutsAll};
-ghost use Rattle.decision_json.specs.Value.{decisions_value, found_value, news_items, trace_value};
+ghost use Rattle.decision_json.specs.Putting.{AreCounted, IsCounted, IsHeldCounted, PutsAll, begun};
+ghost use Rattle.decision_json.specs.Value.{decisions_value, found_members, news_items, told_value, trace_value};
 
+use crate::held::put_held;
 use crate::news::TraceNews;
-use crate::putting::{begin_trace, put_count, put_news, put_text};
+use crate::putting::{begin_news, begin_trace, put_count, put_news, put_text};
+use decision_line::TraceHeld;
 use json::Writer;
 use std::alloc::{AllocError, Global};
 
@@ -49,22 +51,39 @@ fn put_decisions(
     writer.end_object()
 }
 
-/// Writes what became of the trace with this id, if that is known.
-fn put_found(
+/// Writes what became of the trace with this id, if that is known, but for the end of its object.
+fn begin_found(
     writer: &mut Writer,
     alloc: Global,
     names: &[String],
     id: &[u8],
     found: Option<&TraceNews>,
 ) -> Result<(), AllocError>
-    ensures tokens { PutsAll result writer.old writer.new (json_tokens (found_value (map string_bytes names.now) id.now (option_copied found.entry))) }
+    ensures tokens { PutsAll result writer.old writer.new (begun (found_members (map string_bytes names.now) id.now (option_copied found.entry))) }
     ensures range { OnOk result (IfSome (option_copied found.entry) IsCounted) }
 {
     if let Some(news) = found {
-        return put_news(writer, alloc, names, news);
+        return begin_news(writer, alloc, names, news);
     }
     begin_trace(writer, alloc, id)?;
-    put_text(writer, "state", "unknown")?;
+    put_text(writer, "state", "unknown")
+}
+
+/// Writes what became of the trace with this id, if that is known, and what the shards hold of it.
+fn put_told(
+    writer: &mut Writer,
+    alloc: Global,
+    names: &[String],
+    id: &[u8],
+    found: Option<&TraceNews>,
+    held: Option<TraceHeld>,
+) -> Result<(), AllocError>
+    ensures tokens { PutsAll result writer.old writer.new (json_tokens (told_value (map string_bytes names.now) id.now (option_copied found.entry) held)) }
+    ensures range { OnOk result (IfSome (option_copied found.entry) IsCounted × IsHeldCounted held) }
+{
+    begin_found(writer, alloc, names, id, found)?;
+    writer.key("held")?;
+    put_held(writer, held)?;
     writer.end_object()
 }
 
@@ -105,18 +124,19 @@ pub fn decisions_text(
     line_of(writer)
 }
 
-/// What became at last of the trace whose id has these bytes, of what is remembered, the newest first, or that nothing is
-/// known of it: one line of JSON with no blanks.
+/// What became at last of the trace whose id has these bytes, of what is remembered, the newest first, or that nothing was
+/// told of it; and what the shards hold of it, once they have answered: one line of JSON with no blanks.
 pub fn trace_text(
     alloc: Global,
     names: &[String],
     id: &[u8; 16],
     news: &[TraceNews],
+    held: Option<TraceHeld>,
 ) -> Result<String, AllocError>
-    ensures text { IfOk result (λ text. string_bytes text ≡ line_of (trace_value (map string_bytes names.now) id.now news.now)) }
-    ensures back { OnOk result (ReadsBack (trace_value (map string_bytes names.now) id.now news.now)) }
+    ensures text { IfOk result (λ text. string_bytes text ≡ line_of (trace_value (map string_bytes names.now) id.now news.now held)) }
+    ensures back { OnOk result (ReadsBack (trace_value (map string_bytes names.now) id.now news.now held)) }
 {
     let mut writer = Writer::new(Vec::new(alloc));
-    put_found(&mut writer, alloc, names, id, newest_of(id, news))?;
+    put_told(&mut writer, alloc, names, id, newest_of(id, news), held)?;
     line_of(writer)
 }

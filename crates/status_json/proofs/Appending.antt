@@ -17,9 +17,22 @@ three-appended (Ok done) old a b c whole first second new d e h is =
     ∙ ap (λ (x : List ℕ). old ++ x) is
 three-appended (Err fault) old a b c whole first second new d e h is = h
 
--- five pieces were appended to nothing
-pub five-appended : (none a b c d e first second third fourth new : List ℕ) → none ≡ [] → first ≡ none ++ a → second ≡ first ++ b → third ≡ second ++ c
-    → fourth ≡ third ++ d → new ≡ fourth ++ e → new ≡ a ++ (b ++ (c ++ (d ++ e)))
-five-appended none a b c d e first second third fourth new n f s t u v =
-    v ∙ ap (λ (x : List ℕ). x ++ e) (u ∙ ap (λ (x : List ℕ). x ++ d) (t ∙ ap (λ (x : List ℕ). x ++ c) (s ∙ ap (λ (x : List ℕ). x ++ b) (f ∙ ap (λ (x : List ℕ). x ++ a) n))))
-    ∙ append_assoc ((a ++ b) ++ c) d e ∙ append_assoc (a ++ b) c (d ++ e) ∙ append_assoc a b (c ++ (d ++ e))
+-- three pieces were appended to nothing
+three-from-none : (none a b c first second new : List ℕ) → none ≡ [] → first ≡ none ++ a → second ≡ first ++ b → new ≡ second ++ c → new ≡ a ++ (b ++ c)
+three-from-none none a b c first second new n f s t =
+    t ∙ ap (λ (x : List ℕ). x ++ c) (s ∙ ap (λ (x : List ℕ). x ++ b) (f ∙ ap (λ (x : List ℕ). x ++ a) n)) ∙ append_assoc a b c
+
+-- seven were
+pub seven-appended : (none a b c d e f g first second third fourth fifth sixth new : List ℕ) → none ≡ [] → first ≡ none ++ a → second ≡ first ++ b → third ≡ second ++ c
+    → fourth ≡ third ++ d → fifth ≡ fourth ++ e → sixth ≡ fifth ++ f → new ≡ sixth ++ g → new ≡ a ++ (b ++ (c ++ (d ++ (e ++ (f ++ g)))))
+seven-appended none a b c d e f g first second third fourth fifth sixth new n is-1 is-2 is-3 is-4 is-5 is-6 is-7 =
+    is-7 ∙ ap (λ (x : List ℕ). x ++ g) (is-6 ∙ ap (λ (x : List ℕ). x ++ f) (is-5 ∙ ap (λ (x : List ℕ). x ++ e) (is-4 ∙ ap (λ (x : List ℕ). x ++ d) (three-from-none none a b c first second third n is-1 is-2 is-3))))
+    ∙ regrouped a b c d e f g
+  where
+    regrouped : (a b c d e f g : List ℕ) → ((((a ++ (b ++ c)) ++ d) ++ e) ++ f) ++ g ≡ a ++ (b ++ (c ++ (d ++ (e ++ (f ++ g)))))
+    regrouped a b c d e f g = simp append_assoc
+
+-- one piece was appended, by another spelling of it
+pub one-appended : {V E : Type 0} (answer : Result V E) → (old a whole new : List ℕ) → OnOk answer (new ≡ old ++ a) → a ≡ whole → OnOk answer (new ≡ old ++ whole)
+one-appended (Ok done) old a whole new h is = h ∙ ap (λ (x : List ℕ). old ++ x) is
+one-appended (Err fault) old a whole new h is = h

@@ -1,5 +1,5 @@
 -- What is written piece by piece is what the definitions say.
--- For the contracts of `put_dropped`, `put_spans`, `put_history` and `status_text`.
+-- For the contracts of `put_dropped`, `put_spans`, `put_backlog`, `put_history` and `status_text`.
 use Rattle.std.proofs.Common.{◌≡◌, ◌++◌, ◌∷◌, ℕ, List, [], append_assoc, append-nil}
 use Rattle.std.specs.Prelude.{codes, decimal, map}
 use Rattle.span_ids.specs.declared.outcome.Reason.TheVariants.{InvalidId, QueueFull, NoMemory, Evicted, NotSampled, LateNotSampled, ExporterDown}
@@ -24,9 +24,13 @@ three-pieces : (k1 a k2 b k3 c inner end : List ℕ)
     → (k1 ++ (a ++ (k2 ++ (b ++ k3)))) ++ (c ++ (inner ++ end)) ≡ k1 ++ ((a ++ (k2 ++ (b ++ (k3 ++ ((c ++ inner) ++ []))))) ++ end)
 three-pieces k1 a k2 b k3 c inner end = simp (append_assoc, append-nil)
 
-three-pieces-in-a-line : (k1 a k2 b k3 c end feed : List ℕ)
-    → (k1 ++ (a ++ k2)) ++ (b ++ (k3 ++ (c ++ (end ++ feed)))) ≡ k1 ++ (((a ++ (k2 ++ (b ++ (k3 ++ (c ++ []))))) ++ end) ++ feed)
-three-pieces-in-a-line k1 a k2 b k3 c end feed = simp (append_assoc, append-nil)
+four-pieces-in-a-line : (k1 a k2 b k3 c k4 d end feed : List ℕ)
+    → (k1 ++ (a ++ k2)) ++ (b ++ (k3 ++ (c ++ (k4 ++ (d ++ (end ++ feed)))))) ≡ k1 ++ (((a ++ (k2 ++ (b ++ (k3 ++ (c ++ (k4 ++ (d ++ []))))))) ++ end) ++ feed)
+four-pieces-in-a-line k1 a k2 b k3 c k4 d end feed = simp (append_assoc, append-nil)
+
+four-in-a-row : (k1 a k2 b k3 c k4 d end : List ℕ)
+    → k1 ++ (a ++ (k2 ++ (b ++ (k3 ++ (c ++ (k4 ++ (d ++ end))))))) ≡ k1 ++ ((a ++ (k2 ++ (b ++ (k3 ++ (c ++ (k4 ++ (d ++ []))))))) ++ end)
+four-in-a-row k1 a k2 b k3 c k4 d end = simp (append_assoc, append-nil)
 
 -- of texts of numbers
 
@@ -54,11 +58,17 @@ pub history-of-texts : (every rows : List ℕ)
 history-of-texts every rows =
     three-pieces (codes "{\"every_ms\":") every (codes ",\"columns\":") (array (map quoted columns)) (codes ",\"rows\":[") rows (codes "]") (codes "}")
 
-pub status-of-texts : (now spans history : List ℕ)
-    → (codes "{\"now_ms\":" ++ (now ++ codes ",\"spans\":")) ++ (spans ++ (codes ",\"history\":" ++ (history ++ codes "}\n")))
-    ≡ object (member (codes "now_ms") now ∷ member (codes "spans") spans ∷ member (codes "history") history ∷ []) ++ codes "\n"
-status-of-texts now spans history =
-    three-pieces-in-a-line (codes "{\"now_ms\":") now (codes ",\"spans\":") spans (codes ",\"history\":") history (codes "}") (codes "\n")
+pub backlog-of-texts : (waiting under_way failed_tries given_up : List ℕ)
+    → codes "{\"waiting_spans\":" ++ (waiting ++ (codes ",\"under_way_s\":" ++ (under_way ++ (codes ",\"failed_tries\":" ++ (failed_tries ++ (codes ",\"given_up_batches\":" ++ (given_up ++ codes "}")))))))
+    ≡ object (member (codes "waiting_spans") waiting ∷ member (codes "under_way_s") under_way ∷ member (codes "failed_tries") failed_tries ∷ member (codes "given_up_batches") given_up ∷ [])
+backlog-of-texts waiting under_way failed_tries given_up =
+    four-in-a-row (codes "{\"waiting_spans\":") waiting (codes ",\"under_way_s\":") under_way (codes ",\"failed_tries\":") failed_tries (codes ",\"given_up_batches\":") given_up (codes "}")
+
+pub status-of-texts : (now spans export history : List ℕ)
+    → (codes "{\"now_ms\":" ++ (now ++ codes ",\"spans\":")) ++ (spans ++ (codes ",\"export\":" ++ (export ++ (codes ",\"history\":" ++ (history ++ codes "}\n")))))
+    ≡ object (member (codes "now_ms") now ∷ member (codes "spans") spans ∷ member (codes "export") export ∷ member (codes "history") history ∷ []) ++ codes "\n"
+status-of-texts now spans export history =
+    four-pieces-in-a-line (codes "{\"now_ms\":") now (codes ",\"spans\":") spans (codes ",\"export\":") export (codes ",\"history\":") history (codes "}") (codes "\n")
 
 -- of the numbers themselves
 

@@ -1,9 +1,10 @@
 -- The text of `GET /status.json`.
-use Rattle.std.specs.Prelude.{ℕ, List, [], ◌∷◌, ◌++◌, map, codes, decimal}
+use Rattle.std.specs.Prelude.{ℕ, List, [], ◌∷◌, ◌++◌, map, codes, decimal, Option, Some, None}
 use Rattle.span_ids.specs.declared.outcome.Reason.{Reason}
 use Rattle.drop_ledger.specs.declared.count.Count.TheVariants.{Received, Handed, Dropped}
 use Rattle.metrics_text.specs.Families.{number_of, reason_word, reasons}
 use Rattle.status_json.specs.declared.due.TheConstants.{HISTORY_PACE}
+use Rattle.status_json.specs.declared.numbers.Backlog.{Backlog}
 use Rattle.status_json.specs.declared.numbers.HistoryRow.{HistoryRow}
 use Rattle.status_json.specs.declared.numbers.Status.{Status}
 use Rattle.status_json.specs.Json.{array, member, object, quoted}
@@ -30,6 +31,21 @@ spans_of status =
     ∷ counted (codes "waiting") status.waiting
     ∷ [])
 
+-- what waits for a backend
+abbrev pub backlog_of : Backlog → List ℕ
+backlog_of backlog =
+    object
+    (counted (codes "waiting_spans") backlog.waiting
+    ∷ counted (codes "under_way_s") backlog.under_way
+    ∷ counted (codes "failed_tries") backlog.failed_tries
+    ∷ counted (codes "given_up_batches") backlog.given_up
+    ∷ [])
+
+-- null where there is none
+abbrev pub export_of : Option Backlog → List ℕ
+export_of None = codes "null"
+export_of (Some backlog) = backlog_of backlog
+
 -- what the numbers of a row are
 abbrev pub columns : List (List ℕ)
 columns = codes "at_ms" ∷ codes "received" ∷ codes "handed" ∷ map reason_word reasons
@@ -53,6 +69,7 @@ status_text status rows =
     object
     (counted (codes "now_ms") status.now
     ∷ member (codes "spans") (spans_of status)
+    ∷ member (codes "export") (export_of status.backlog)
     ∷ member (codes "history") (history_of rows)
     ∷ [])
     ++ codes "\n"

@@ -1,10 +1,10 @@
 //! The text.
 ghost use Rattle.std.specs.Prelude.{◌≡◌, ◌++◌, decimal, map, string_bytes, IfOk, OnOk};
 ghost use Rattle.status_json.specs.Json.{behind_commas, joined};
-ghost use Rattle.status_json.specs.Text.{dropped_of, history_of, row_of, spans_of, status_text};
+ghost use Rattle.status_json.specs.Text.{backlog_of, dropped_of, export_of, history_of, row_of, spans_of, status_text};
 
 use crate::due::HISTORY_PACE;
-use crate::numbers::{HistoryRow, Status};
+use crate::numbers::{Backlog, HistoryRow, Status};
 use drop_ledger::{Count, Report};
 use span_ids::Reason;
 use std::alloc::{AllocError, Global};
@@ -47,6 +47,30 @@ fn put_spans(text: &mut String, status: &Status) -> Result<(), AllocError>
     )?;
     put_dropped(text, &status.report)?;
     write!(text, ",\"waiting\":{waiting}}}")
+}
+
+/// Appends what waits for a backend.
+fn put_backlog(text: &mut String, backlog: Backlog) -> Result<(), AllocError>
+    ensures { OnOk result (string_bytes text.new ≡ string_bytes text.old ++ backlog_of backlog) }
+{
+    let waiting = backlog.waiting;
+    let under_way = backlog.under_way;
+    let failed_tries = backlog.failed_tries;
+    let given_up = backlog.given_up;
+    write!(
+        text,
+        "{{\"waiting_spans\":{waiting},\"under_way_s\":{under_way},\"failed_tries\":{failed_tries},\"given_up_batches\":{given_up}}}"
+    )
+}
+
+/// Appends what waits for the backend, or `null` where there is none.
+fn put_export(text: &mut String, backlog: Option<Backlog>) -> Result<(), AllocError>
+    ensures { OnOk result (string_bytes text.new ≡ string_bytes text.old ++ export_of backlog) }
+{
+    match backlog {
+        Some(backlog) => put_backlog(text, backlog),
+        None => write!(text, "null"),
+    }
 }
 
 /// Appends numbers, each behind a comma.
@@ -108,6 +132,8 @@ pub fn status_text(
     let now = status.now;
     write!(text, "{{\"now_ms\":{now},\"spans\":")?;
     put_spans(&mut text, status)?;
+    write!(text, ",\"export\":")?;
+    put_export(&mut text, status.backlog)?;
     write!(text, ",\"history\":")?;
     put_history(&mut text, rows)?;
     write!(text, "}}\n")?;

@@ -256,7 +256,7 @@ pub(crate) const TEXT: &str = "<!doctype html>\n\
     \"use strict\";\n\
     // Reads /metrics and /healthz every two seconds, and keeps ten minutes of numbers.\n\
     const FEEDS = new Set(document.documentElement.dataset.feeds.split(\" \"));\n\
-    const EVERY = 2000, WINDOW = 600000, COLUMN = 5000, PATIENCE = 4000;\n\
+    const EVERY = 2000, WINDOW = 600000, COLUMN = 5000, PATIENCE = 4000, AGAIN = 700;\n\
     // What becomes of spans, from the bottom of the chart upwards.\n\
     const PLACES = [\n\
     \t[\"handed\", \"handed over\", \"--handed\"],\n\
@@ -539,7 +539,10 @@ pub(crate) const TEXT: &str = "<!doctype html>\n\
     async function keepRefreshing() {\n\
     \tfor (;;) {\n\
     \t\tif (!page.paused) await refresh().catch(fault => say(\"state\", \"Fault of this page: \" + fault.message));\n\
-    \t\tif (!page.paused && FEEDS.has(\"decisions\") && !$(\"decisions\").hidden) await readDecisions();\n\
+    \t\tif (!page.paused && FEEDS.has(\"decisions\") && !$(\"decisions\").hidden) {\n\
+    \t\t\tawait readDecisions();\n\
+    \t\t\tif (page.asked) await readTrace();\n\
+    \t\t}\n\
     \t\tawait new Promise(done => setTimeout(done, EVERY));\n\
     \t}\n\
     }\n\
@@ -779,11 +782,20 @@ pub(crate) const TEXT: &str = "<!doctype html>\n\
     \tif (next) { page.chosen = next.to; showChart(); }\n\
     }\n\
     \n\
+    // How the backend takes what waits for it.\n\
+    function sendingOf(it) {\n\
+    \tconst batches = Math.ceil(it.waiting_spans / page.settings.send_batch_size), found = [`about ${count(batches)} batch${batches === 1 ? \"\" : \"es\"}`];\n\
+    \tif (it.under_way_s) found.push(`one is sent for ${lasting(1000 * it.under_way_s)}`);\n\
+    \tif (it.failed_tries) found.push(`${count(it.failed_tries)} of its tries failed`);\n\
+    \tif (it.given_up_batches) found.push(`${count(it.given_up_batches)} were given up`);\n\
+    \treturn found.join(\", \");\n\
+    }\n\
+    \n\
     function showGauges(told) {\n\
     \tconst settings = page.settings, limit = settings.memory_limit_mib * 2 ** 20, ofLimit = (value, most) => `${percent(value / most)} of ${count(most)}`;\n\
     \tconst traces = it => overShards(it, \"traces\"), spans = overShards(told, \"spans\"), leaving = it => Math.max(0, it.waiting - overShards(it, \"spans\") - overShards(it, \"queue\"));\n\
     \tconst pace = perSecond(it => it.handed, 60000), left = page.export ? page.export.waiting_spans : leaving(told);\n\
-    \tconst lag = !left ? \"nothing waits for the output\" : page.export ? `the oldest for ${lasting(page.export.oldest_ms)}` : pace ? `about ${lasting(1000 * left / pace)} at the present pace (estimated)` : \"none left in the last minute\";\n\
+    \tconst lag = !left ? \"nothing waits for the output\" : page.export ? sendingOf(page.export) : pace ? `about ${lasting(1000 * left / pace)} at the present pace (estimated)` : \"none left in the last minute\";\n\
     \tconst gauges = [\n\
     \t\t[\"memory\", \"Memory\", bytes(told.memory), limit ? `${percent(told.memory / limit)} of ${bytes(limit)}` : \"no limit is set (memory_limit_mib)\", it => it.memory, limit],\n\
     \t\t[\"traces\", \"Traces that wait\", count(traces(told)), `${ofLimit(traces(told), settings.num_traces)}; ${spansOf(spans)}`, traces, settings.num_traces],\n\
@@ -959,23 +971,38 @@ pub(crate) const TEXT: &str = "<!doctype html>\n\
     };\n\
     const ENDS = { root: \"its root had come\", wait: \"its wait was over\", size: \"it had grown too big\", close: \"the collector was closed\" };\n\
     \n\
+    // What the shards hold of a trace of whose decision nothing was told here.\n\
+    function heldOf(held) {\n\
+    \tconst verdict = held?.verdict === \"kept\" ? \"Kept\" : \"Not kept\";\n\
+    \tif (!held) return [\"The shards are asked\", \"They answer in a moment.\"];\n\
+    \tif (held.state === \"waiting\") return [\"It still waits\", `${HOLDS.waiting(held)}.`];\n\
+    \tif (held.state === \"decided\") return [verdict, \"It was decided while nobody looked here: why is told in the file of decisions alone.\"];\n\
+    \tif (held.state === \"remembered\") return [verdict, \"Only the verdict is still remembered: why is told in the file of decisions alone.\"];\n\
+    \treturn [\"This trace isn't known\", \"It is unknown to every shard: it never came, or it was decided, or left, and was forgotten since.\"];\n\
+    }\n\
+    \n\
+    const HOLDS = {\n\
+    \twaiting: it => `waits since ${clock(it.since_ms)}, ${count(it.spans)} spans`, decided: it => `decided, ${it.verdict === \"kept\" ? \"kept\" : \"not kept\"}`,\n\
+    \tremembered: it => `remembered as ${it.verdict === \"kept\" ? \"kept\" : \"not kept\"}`, unknown: () => \"unknown to every shard\",\n\
+    };\n\
+    \n\
     function verdictOf(it) {\n\
-    \tif (it.state === \"unknown\") return [\"This trace isn't known\", \"Of the decisions told while somebody looked here, none of the last 1,000 is of it. It still waits, was decided while nobody looked, or never came.\"];\n\
-    \tif (it.state === \"waiting\") return [\"It still waits\", `${count(it.spans)} spans came in ${lasting(it.waited_ms)}; it is decided in ${lasting(it.due_in_ms)} at the latest${it.root ? \"\" : \", its root hasn't come\"}.`];\n\
+    \tif (it.state === \"unknown\") return heldOf(it.held);\n\
     \tif (it.state === \"evicted\") return [\"Left undecided\", `${it.wait_ms === undefined ? \"There\" : `After ${lasting(it.wait_ms)} there`} was no room for it: its ${count(it.spans)} spans are lost. Raise num_traces.`];\n\
     \tconst kept = it.verdict === \"kept\", verdict = kept ? \"Kept\" : \"Not kept\";\n\
-    \tif (it.state === \"remembered\") return [verdict, \"Only the verdict is still remembered; what the policies said is gone.\"];\n\
     \tif (it.because === \"too_big\") return [verdict, \"It grew beyond maximum_trace_size_bytes, so no policy was asked.\"];\n\
     \tif (it.because === \"none_agreed\") return [verdict, \"No policy spoke for it.\"];\n\
     \treturn [verdict, `“${it.policy}” decided${kept ? \"\" : \" against it\"}.`];\n\
     }\n\
     \n\
     function showTrace(it) {\n\
-    \tconst [verdict, reason] = verdictOf(it), parts = [make(\"p\", { class: \"verdict \" + (it.verdict || \"\") }, verdict), make(\"p\", {}, reason)];\n\
+    \tconst [verdict, reason] = verdictOf(it), told = it.verdict || it.state === \"unknown\" && it.held?.verdict || \"\";\n\
+    \tconst parts = [make(\"p\", { class: \"verdict \" + told }, verdict), make(\"p\", {}, reason)];\n\
     \tconst facts = [\n\
     \t\t[\"trace\", it.trace_id, \"id\"], [\"root\", it.root && `${it.root} (${it.service})`], [\"took\", it.took_ms !== undefined && lasting(it.took_ms)],\n\
     \t\t[\"spans\", it.spans && count(it.spans) + (it.late_spans ? ` and ${it.late_spans} later` : \"\")], [\"size\", it.bytes && bytes(it.bytes)],\n\
     \t\t[it.verdict ? \"decided at\" : \"left at\", it.decided_ms && clock(it.decided_ms)], [\"waited\", it.ended_wait && `${lasting(it.wait_ms)}, until ${ENDS[it.ended_wait]}`],\n\
+    \t\t[\"now\", it.held ? HOLDS[it.held.state](it.held) : \"the shards are asked\"],\n\
     \t];\n\
     \tparts.push(make(\"dl\", { class: \"facts\" }, ...facts.filter(it => it[1]).map(([name, value, cls = \"\"]) => make(\"div\", {}, make(\"dt\", {}, name), make(\"dd\", { class: cls }, value)))));\n\
     \tif (it.answers?.length) {\n\
@@ -997,14 +1024,28 @@ pub(crate) const TEXT: &str = "<!doctype html>\n\
     \t$(\"trace-id\").value = id;\n\
     \thistory.replaceState(null, \"\", \"#trace=\" + encodeURIComponent(id));\n\
     \t$(\"found\").replaceChildren();\n\
+    \tpage.asked = page.toldOfIt = null;\n\
     \tif (!/^[0-9a-f]{32}$/.test(id)) return say(\"ask-fault\", \"A trace id has 32 digits from 0 to 9 and a to f.\");\n\
-    \tsay(\"ask-fault\", \"\");\n\
+    \tpage.asked = id;\n\
+    \tif (!await readTrace()) return;\n\
+    \t$(\"found\").focus({ preventScroll: true });\n\
+    \twindow.scrollTo(0, 0);\n\
+    }\n\
+    \n\
+    // What is told of the trace that is asked for. Its shards answer a moment after they were asked first.\n\
+    async function readTrace() {\n\
+    \tconst id = page.asked;\n\
     \ttry {\n\
-    \t\tshowTrace(JSON.parse(await get(`trace/${id}.json`)));\n\
-    \t\t$(\"found\").focus({ preventScroll: true });\n\
-    \t\twindow.scrollTo(0, 0);\n\
+    \t\tconst text = await get(`trace/${id}.json`), it = JSON.parse(text);\n\
+    \t\tif (page.asked !== id) return false;\n\
+    \t\tif (text !== page.toldOfIt) showTrace(it);\n\
+    \t\tpage.toldOfIt = text;\n\
+    \t\tsay(\"ask-fault\", \"\");\n\
+    \t\tif (!it.held) setTimeout(() => page.asked === id && readTrace(), AGAIN);\n\
+    \t\treturn true;\n\
     \t} catch (fault) {\n\
-    \t\tsay(\"ask-fault\", \"The collector doesn't answer.\");\n\
+    \t\tif (page.asked === id) say(\"ask-fault\", \"The collector doesn't answer.\");\n\
+    \t\treturn false;\n\
     \t}\n\
     }\n\
     \n\
@@ -1096,4 +1137,4 @@ pub(crate) const TEXT: &str = "<!doctype html>\n\
 pub(crate) const FIELDS: &str = "Cache-Control: no-store\r\n\
     X-Content-Type-Options: nosniff\r\n\
     Referrer-Policy: no-referrer\r\n\
-    Content-Security-Policy: default-src 'none'; script-src 'sha256-a0zjJZjZ/QPXoHXkFC/7DSB7daEATyTyW6kPd3Q4EZI='; style-src 'sha256-jdDMd9EQgArls3EpZzZK/yxpYatm1eDHUsj6i1fjPc4='; connect-src 'self'; img-src data:; base-uri 'none'; form-action 'none'; frame-ancestors 'none'\r\n";
+    Content-Security-Policy: default-src 'none'; script-src 'sha256-VjpMtbJJNCNXINUSqZs+cWLkdPVpteyO0JHDKMhLET4='; style-src 'sha256-jdDMd9EQgArls3EpZzZK/yxpYatm1eDHUsj6i1fjPc4='; connect-src 'self'; img-src data:; base-uri 'none'; form-action 'none'; frame-ancestors 'none'\r\n";

@@ -1,10 +1,11 @@
-use Rattle.decision_json.proofs.Appended.{count-as, puts-one, puts-then, text-as, trace-as}
-use Rattle.decision_json.proofs.putting.put_decided.Goals as goal
+use Rattle.std.proofs.Common.{append-nil, sym}
+use Rattle.decision_json.proofs.Appended.{count-as, puts-as, puts-then, text-as, trace-as}
+use Rattle.decision_json.proofs.putting.begin_decided.Goals as goal
 
 pub returns-clause-tokens : goal.returns-clause-tokens
 returns-clause-tokens c =
-    let last = c.end_object.result in
-    let new = c.end_object.new.self in
+    let last = c.put_answers.result in
+    let new = c.put_answers.new.writer in
     puts-then last c.args.writer.now c.begin_trace.new.writer new _ _ (trace-as _ _ _ _ c.bytes.ensures c.in_ok-begin_trace.ensures.all.0) c.in_ok-begin_trace.ensures.all.1
     (puts-then last c.begin_trace.new.writer c.put_text.new.writer new _ _ c.in_ok-put_text.ensures.all.0 c.in_ok-put_text.ensures.all.1
     (puts-then last c.put_text.new.writer c.put_count.new.writer new _ _ c.in_ok-put_count.ensures.tokens.all.0 c.in_ok-put_count.ensures.tokens.all.1
@@ -16,5 +17,4 @@ returns-clause-tokens c =
     (puts-then last c.put_count-3.new.writer c.put_text-4.new.writer new _ _ (text-as _ _ _ _ _ c.ended_word.ensures c.in_ok-put_text-4.ensures.all.0) c.in_ok-put_text-4.ensures.all.1
     (puts-then last c.put_text-4.new.writer c.key.new.self new _ _ c.in_ok-key.ensures.ok c.in_ok-key.ensures.room.0
     (puts-then last c.key.new.self c.begin_array.new.self new _ _ c.in_ok-begin_array.ensures.ok c.in_ok-begin_array.ensures.room.0
-    (puts-then last c.begin_array.new.self c.put_answers.new.writer new _ _ c.in_ok-put_answers.ensures.all.0 c.in_ok-put_answers.ensures.all.1
-    (puts-one last c.put_answers.new.writer new _ c.end_object.ensures))))))))))))
+    (puts-as last c.begin_array.new.self new _ _ (sym (append-nil _)) c.put_answers.ensures)))))))))))
