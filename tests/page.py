@@ -280,7 +280,7 @@ def left(page, small):
         sender.post(body_of([span for _ in range(30) for span in trace()]))
     found = "[...document.querySelectorAll('#decided tbody tr')].some(it => it.cells[2].textContent === 'left undecided' && it.cells[3].textContent === 'no room for it')"
     check("a trace that left undecided is told", bool(page.until(found)))
-    page.js("document.querySelectorAll('#decided tbody tr').forEach(it => it.cells[2].textContent === 'left undecided' && (window.gone = it.cells[1].firstChild.title))")
+    page.js("document.querySelectorAll('#decided tbody tr').forEach(it => it.cells[2].textContent === 'left undecided' && (window.gone = it.cells[1].querySelector('a').title))")
     page.js("location.hash = 'trace=' + window.gone")
     check("and by its id", page.until("document.querySelector('#found .verdict')?.textContent"), "Left undecided")
     page.console()
