@@ -12,6 +12,7 @@ use Rattle.otlp_protobuf_encode.proofs.SpansBack.{span-back}
 use Rattle.span_block.specs.Block.{block_of, span_of, held}
 use Rattle.span_block.specs.Fits.{HasBlock}
 use Rattle.span_block.specs.Holds.{PairHolds, PartsHold, SpanHolds}
+use Rattle.span_block.specs.Typed.{PartsAreTyped}
 use Rattle.span_block.specs.Packed.{IsBlock}
 use Rattle.span_block.proofs.Fields.{span_read}
 use Rattle.span_block.proofs.Nests.{each, span_reads}
@@ -45,10 +46,10 @@ read_of s bytes fits holds e room =
     let P : List ℕ → Type 0 = λ b. length b < 2 ^ 64 in
     ap span_of e ∙ block_is_read s fits holds (subst P e room)
 
-pub is_block : (s : Span) (bytes : List ℕ) → HasBlock s → SpanHolds s → bytes ≡ block_of s → length bytes < 2 ^ 64 → IsBlock bytes
-is_block s bytes fits holds e room =
+pub is_block : (s : Span) (bytes : List ℕ) → HasBlock s → SpanHolds s → PartsAreTyped s → bytes ≡ block_of s → length bytes < 2 ^ 64 → IsBlock bytes
+is_block s bytes fits holds typed e room =
     let same : s ≡ held bytes = sym (held_is s bytes (read_of s bytes fits holds e room)) in
-    record { fits = subst HasBlock same fits; holds = subst SpanHolds same holds; written = e ∙ ap block_of same }
+    record { fits = subst HasBlock same fits; holds = subst SpanHolds same holds; typed = subst PartsAreTyped same typed; written = e ∙ ap block_of same }
 
 -- of the bytes of a block
 pub block_read : (bytes : List ℕ) → IsBlock bytes → length bytes < 2 ^ 64 → span_of bytes ≡ Some (held bytes)

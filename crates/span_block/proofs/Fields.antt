@@ -135,7 +135,7 @@ found n low (g ∷ gs) rise = by_order n low g.0 g.1 gs (g.0 == n) (nat_lt n g.0
 -- ---- the kinds of fields
 
 -- a field, or none
-unless : (P : Field → Type 0) (b : Bool) (f : Field) → P f → AllByRecursion P (cond b [] (f ∷ []))
+pub unless : (P : Field → Type 0) (b : Bool) (f : Field) → P f → AllByRecursion P (cond b [] (f ∷ []))
 unless P true f h = tt
 unless P false f h = (h, tt)
 
@@ -151,7 +151,7 @@ pub message-all : (P : Field → Type 0) (n : ℕ) (fs : List Field) → ((t : L
 message-all P n [] h = tt
 message-all P n (f ∷ fs) h = (h (message_bytes (f ∷ fs)), tt)
 
-repeated-all : (P : Field → Type 0) (n : ℕ) (ms : List (List Field)) → ((t : List ℕ) → P (field n (bytes t))) → AllByRecursion P (repeated n ms)
+pub repeated-all : (P : Field → Type 0) (n : ℕ) (ms : List (List Field)) → ((t : List ℕ) → P (field n (bytes t))) → AllByRecursion P (repeated n ms)
 repeated-all P n [] h = tt
 repeated-all P n (m ∷ ms) h = (h (message_bytes m), repeated-all P n ms h)
 

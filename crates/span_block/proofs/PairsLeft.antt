@@ -34,7 +34,7 @@ use Rattle.span_block.proofs.Fields.{IsPlain, ArePlain, plain_read, text-all, me
 -- ---- what a value is
 
 -- the fields of one level
-abbrev layer : AnyValue-F AnyValue KeyValue → List Field
+abbrev pub layer : AnyValue-F AnyValue KeyValue → List Field
 layer AnyValue-F.Empty = []
 layer (AnyValue-F.Str s) = field 1 (bytes s) ∷ []
 layer (AnyValue-F.Bool b) = field 2 (varint (truth_bits b)) ∷ []
@@ -54,7 +54,7 @@ layer_of (AnyValue-F.Array vs) = ap value_fields (rolls-Array vs) ∙ fields-Arr
 layer_of (AnyValue-F.KvList ps) = ap value_fields (rolls-KvList ps) ∙ fields-KvList ps
 layer_of (AnyValue-F.Bytes s) = ap value_fields (rolls-Bytes s) ∙ fields-Bytes s
 
-value_layer : (v : AnyValue) → value_fields v ≡ layer (out-AnyValue v)
+pub value_layer : (v : AnyValue) → value_fields v ≡ layer (out-AnyValue v)
 value_layer v = ap value_fields (sym (roll-out-AnyValue v)) ∙ layer_of (out-AnyValue v)
 
 layer_plain : (o : AnyValue-F AnyValue KeyValue) → ScalarHolds o → ArePlain (layer o)
@@ -113,10 +113,10 @@ pair_joined p = fields-pair p ∙ ap (λ fs. text_field 1 p.key ++ fs) (nil_righ
 pair_rise : (p : KeyValue) → Rise 0 (pair_groups p)
 pair_rise p = (lit< tt, text-all (Is 1) 1 p.key (λ t. refl), (lit< tt, message-all (Is 2) 2 (value_fields p.value) (λ t. refl), tt))
 
-pair_found : (n : ℕ) (p : KeyValue) → first_field n (pair_fields p) ≡ first_field n (group n (pair_groups p))
+pub pair_found : (n : ℕ) (p : KeyValue) → first_field n (pair_fields p) ≡ first_field n (group n (pair_groups p))
 pair_found n p = ap (first_field n) (pair_joined p) ∙ found n 0 (pair_groups p) (pair_rise p)
 
-pair_plain : (p : KeyValue) → ArePlain (pair_fields p)
+pub pair_plain : (p : KeyValue) → ArePlain (pair_fields p)
 pair_plain p =
     subst ArePlain (sym (fields-pair p))
     (both-all IsPlain (text_field 1 p.key) (message_field 2 (value_fields p.value)) (text-all IsPlain 1 p.key (λ t. (lit< tt, lit< tt, tt))) (message-all IsPlain 2 (value_fields p.value) (λ t. (lit< tt, lit< tt, tt))))
@@ -189,17 +189,17 @@ by_order n k fs gs false false e f of rise more =
     let h : k < n = grind (arith, nat_tests) in
     passed n k fs (joined gs) h of ∙ more
 
-messages_found : (n low : ℕ) (gs : List Group) → Rise low gs → messages n (joined gs) ≡ messages n (group n gs)
+pub messages_found : (n low : ℕ) (gs : List Group) → Rise low gs → messages n (joined gs) ≡ messages n (group n gs)
 messages_found n low [] rise = refl
 messages_found n low (g ∷ gs) rise = by_order n g.0 g.1 gs (g.0 == n) (nat_lt n g.0) refl refl rise.1 rise.2 (messages_found n g.0 gs rise.2)
 
-messages_repeated : (n : ℕ) (ms : List (List Field)) → messages n (repeated n ms) ≡ map message_bytes ms
+pub messages_repeated : (n : ℕ) (ms : List (List Field)) → messages n (repeated n ms) ≡ map message_bytes ms
 messages_repeated n [] = refl
 messages_repeated n (m ∷ ms) =
     let r : List (List ℕ) = messages n (repeated n ms) in
     taken_by n (message_bytes m) r (cond (nat_lt n n) [] r) (n == n) refl ∙ ap (λ t. message_bytes m ∷ t) (messages_repeated n ms)
 
-span_messages : (s : Span) → messages 9 (span_fields s) ≡ map message_bytes (map pair_fields s.attributes)
+pub span_messages : (s : Span) → messages 9 (span_fields s) ≡ map message_bytes (map pair_fields s.attributes)
 span_messages s = ap (messages 9) (span_joined s) ∙ messages_found 9 0 (span_groups s) (span_rise s) ∙ messages_repeated 9 (map pair_fields s.attributes)
 
 -- ---- pairs in messages

@@ -19,6 +19,7 @@ use Rattle.otlp_protobuf_encode.specs.ReadsBack.{ValueReadsBack, PairReadsBack}
 use Rattle.otlp_protobuf_encode.proofs.ValuesBack.{empty-back, str-back, truth-value-back, int-back, double-back, bytes-value-back, array-back, kv_list-back, pair-back}
 use Rattle.span_block.specs.Fits.{BytesFit, ValueFits, PairFits}
 use Rattle.span_block.specs.Holds.{ScalarHolds, ValueHolds, PairHolds}
+use Rattle.span_block.specs.Typed.{ValueIsTyped, PairIsTyped}
 use Rattle.span_block.proofs.Nests.{each}
 
 -- ---- what a value is
@@ -127,10 +128,47 @@ pub kv_list_holds : (ps : List KeyValue) → AllByRecursion PairHolds ps → Val
 kv_list_holds ps h = holds-by (KvList ps) (AnyValue-F.KvList ps) (out-KvList ps) tt (kv_list-back ps (pairs_back ps h))
 
 pub bytes_holds : (s : List ℕ) → encode_of standard (unwrap_or (base64_of s) []) ≡ s → ValueHolds (Bytes s)
-bytes_holds s again = holds-by (Bytes s) (AnyValue-F.Bytes s) (out-Bytes s) tt (bytes-value-back s again)
+bytes_holds s again = holds-by (Bytes s) (AnyValue-F.Bytes s) (out-Bytes s) again (bytes-value-back s again)
 
 pub pair_holds : (p : KeyValue) → IsUtf8 p.key → ValueHolds p.value → PairHolds p
 pair_holds p utf8 h = record { back = pair-back p utf8 h.back; key = utf8; scalar = h.scalar }
+
+-- ---- what is typed
+
+abbrev pub TypedBelow : ℕ → AnyValue-F AnyValue KeyValue → Type 0
+TypedBelow n v = AllByRecursion (ValueIsTyped n) (items_in v) × AllByRecursion (PairIsTyped n) (pairs_in v) × ScalarHolds v
+
+typed-by : (n : ℕ) (v : AnyValue) (o : AnyValue-F AnyValue KeyValue) → out-AnyValue v ≡ o → TypedBelow n o → ValueIsTyped (suc n) v
+unfolding ValueIsTyped
+typed-by n v o e h = subst (TypedBelow n) (sym e) h
+
+pub typed_below : (n : ℕ) (v : AnyValue) → ValueIsTyped (suc n) v → TypedBelow n (out-AnyValue v)
+unfolding ValueIsTyped
+typed_below n v h = h
+
+pub empty_typed : (n : ℕ) → ValueIsTyped (suc n) Empty
+empty_typed n = typed-by n Empty AnyValue-F.Empty out-Empty (tt, tt, tt)
+
+pub str_typed : (n : ℕ) (s : List ℕ) → IsUtf8 s → ValueIsTyped (suc n) (Str s)
+str_typed n s h = typed-by n (Str s) (AnyValue-F.Str s) (out-Str s) (tt, tt, h)
+
+pub truth_typed : (n : ℕ) (b : Bool) → ValueIsTyped (suc n) (Truth b)
+truth_typed n b = typed-by n (Truth b) (AnyValue-F.Bool b) (out-Truth b) (tt, tt, tt)
+
+pub int_typed : (n : ℕ) (z : ℤ) → FitsSigned w64 z → ValueIsTyped (suc n) (Int z)
+int_typed n z h = typed-by n (Int z) (AnyValue-F.Int z) (out-Int z) (tt, tt, h)
+
+pub double_typed : (n : ℕ) (x : Float) → to_bits binary64 x < 2 ^ 64 → of_bits binary64 (to_bits binary64 x) ≡ x → ValueIsTyped (suc n) (Double x)
+double_typed n x small again = typed-by n (Double x) (AnyValue-F.Double x) (out-Double x) (tt, tt, (small, again))
+
+pub array_typed : (n : ℕ) (vs : List AnyValue) → AllByRecursion (ValueIsTyped n) vs → ValueIsTyped (suc n) (Array vs)
+array_typed n vs h = typed-by n (Array vs) (AnyValue-F.Array vs) (out-Array vs) (h, tt, tt)
+
+pub kv_list_typed : (n : ℕ) (ps : List KeyValue) → AllByRecursion (PairIsTyped n) ps → ValueIsTyped (suc n) (KvList ps)
+kv_list_typed n ps h = typed-by n (KvList ps) (AnyValue-F.KvList ps) (out-KvList ps) (tt, h, tt)
+
+pub bytes_typed : (n : ℕ) (s : List ℕ) → encode_of standard (unwrap_or (base64_of s) []) ≡ s → ValueIsTyped (suc n) (Bytes s)
+bytes_typed n s h = typed-by n (Bytes s) (AnyValue-F.Bytes s) (out-Bytes s) (tt, tt, h)
 
 -- ---- levels
 
@@ -140,6 +178,9 @@ IsBelow levels n = (1 ≤ levels) × (n ≡ levels - 1)
 
 pub at_level : (levels n : ℕ) (v : AnyValue) → IsBelow levels n → ValueFits (suc n) v → ValueFits levels v
 at_level levels n v h fits = let e : suc n ≡ levels = omega (arith, h) in let P : ℕ → Type 0 = λ m. ValueFits m v in subst P e fits
+
+pub typed_at : (levels n : ℕ) (v : AnyValue) → IsBelow levels n → ValueIsTyped (suc n) v → ValueIsTyped levels v
+typed_at levels n v h typed = let e : suc n ≡ levels = omega (arith, h) in let P : ℕ → Type 0 = λ m. ValueIsTyped m v in subst P e typed
 
 pub from_level : (levels n : ℕ) (v : AnyValue) → IsBelow levels n → ValueFits levels v → ValueFits (suc n) v
 from_level levels n v h fits = let e : levels ≡ suc n = omega (arith, h) in let P : ℕ → Type 0 = λ m. ValueFits m v in subst P e fits

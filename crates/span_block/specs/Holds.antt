@@ -1,22 +1,26 @@
 -- What the writers learn of what they write, for private clauses: that it is read again, and that its texts and numbers are
 -- such as their types hold.
-use Rattle.std.specs.Prelude.{◌≡◌, ◌<◌, ◌^◌, FitsSigned, to_bits}
+use Rattle.std.specs.Prelude.{◌≡◌, ◌<◌, ◌^◌, [], unwrap_or, FitsSigned, to_bits}
 use Rattle.std.specs.Int.{w32, w64}
 use Rattle.std.specs.Float.{binary64}
 use Rattle.std.specs.Float.Ieee.{of_bits}
 use Rattle.std.specs.Str.{IsUtf8}
 use Rattle.std.specs.List.{AllByRecursion}
+use Rattle.base64.specs.Engines.{standard}
+use Rattle.base64.specs.GeneralPurpose.{encode_of}
 use Rattle.otlp_types.specs.declared.value.AnyValue.{AnyValue, out-AnyValue}
 use Rattle.otlp_types.specs.declared.value.AnyValue.TheOpen.{AnyValue-F}
 use Rattle.otlp_types.specs.declared.value.KeyValue.{KeyValue}
 use Rattle.otlp_types.specs.declared.span.Status.{Status}
 use Rattle.otlp_types.specs.declared.span.Span.{Span}
+use Rattle.otlp_protobuf_encode.specs.Writing.{base64_of}
 use Rattle.otlp_protobuf_encode.specs.ReadsBack.{ValueReadsBack, PairReadsBack, StatusReadsBack, EventReadsBack, LinkReadsBack, HeadHolds, TimesHold}
 
 abbrev pub ScalarHolds : AnyValue-F AnyValue KeyValue → Type 0
 ScalarHolds (AnyValue-F.Str s) = IsUtf8 s
 ScalarHolds (AnyValue-F.Int z) = FitsSigned w64 z
 ScalarHolds (AnyValue-F.Double x) = (to_bits binary64 x < 2 ^ 64) × (of_bits binary64 (to_bits binary64 x) ≡ x)
+ScalarHolds (AnyValue-F.Bytes s) = encode_of standard (unwrap_or (base64_of s) []) ≡ s
 ScalarHolds _ = Unit {0}
 
 pub record ValueHolds (v : AnyValue) : Type 0 where

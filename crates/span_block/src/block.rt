@@ -5,6 +5,7 @@ ghost use Rattle.otlp_protobuf_encode.specs.Writing.{span_fields};
 ghost use Rattle.span_block.specs.Block.{block_of, span_of};
 ghost use Rattle.span_block.specs.Fits.{HasBlock, Refuses};
 ghost use Rattle.span_block.specs.Holds.{SpanHolds};
+ghost use Rattle.span_block.specs.Typed.{PartsAreTyped};
 
 use crate::pack_error::PackError;
 use crate::span::pack_span;
@@ -53,11 +54,15 @@ impl SpanBlock {
         Ok(SpanBlock { bytes })
     }
 
-    /// The canonical bytes, which are read as the span again.
+    /// The canonical bytes, which are read as the span again. What they are as fields, and what holds of these, is for
+    /// crates that walk over them.
     pub fn as_bytes(&self) -> &[u8]
         ensures bytes { result.now ≡ block_of self.now }
         ensures back { span_of result.now ≡ Some self.now }
         ensures fits { HasBlock self.now }
+        ensures fields { fields_of result.now ≡ Ok (span_fields self.now) }
+        ensures holds { SpanHolds self.now }
+        ensures typed { PartsAreTyped self.now }
     {
         self.message()
     }
@@ -69,6 +74,7 @@ impl SpanBlock {
         ensures room { length result.now < 2 ^ 64 }
         ensures fields { fields_of result.now ≡ Ok (span_fields self.now) }
         ensures holds { SpanHolds self.now }
+        ensures typed { PartsAreTyped self.now }
         ensures fits { HasBlock self.now }
     {
         self.bytes.as_slice()

@@ -26,4 +26,6 @@ mod walks;
 pub use attribute::{Attribute, Scalar};
 pub use attributes::Attributes;
 pub use block::SpanBlock;
+pub use find::{bytes_at, fixed32_at, fixed64_at, number_at};
+pub use messages::next_message;
 pub use pack_error::PackError;

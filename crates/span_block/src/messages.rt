@@ -10,6 +10,7 @@ use protobuf_wire::{Fields, WireValue};
 /// search, and the fields with it.
 pub fn next_message<'a>(fields: &mut Fields<'a>, number: u32) -> Option<&'a [u8]>
     ensures room { IfSome result (λ message. length message.now < 2 ^ 64) }
+    ensures shorter { IfSome result (λ _. length fields.new < length fields.old) }
     ensures next { (fs : List Field) → fields_of fields.old ≡ Ok fs → NextMessage number fs result fields.new }
 {
     'fields: while let Ok(Some(field)) = fields.next() {

@@ -22,10 +22,14 @@ pub trait Packed {
     /// It is read from its message again, as far as it fits.
     ghost holds: { Self → Type 0 };
 
+    /// Its texts and numbers are such as their types hold, at any depth.
+    ghost typed: { ℕ → Self → Type 0 };
+
     /// Appends the fields. Values may nest so many levels deep.
     fn pack(&self, alloc: Global, levels: u32, out: &mut Vec<u8>) -> Result<(), PackError>
         ensures bytes { OnOk result (Adds out.old.items out.new.items (fields self.now)) }
         ensures holds { OnOk result (holds self.now) }
+        ensures typed { OnOk result (typed levels self.now) }
         ensures fits { OnOk result (fits levels self.now) }
         ensures refused { IfErr result (Refuses (fits levels self.now)) };
 }
@@ -41,6 +45,7 @@ pub fn message<T: Packed>(
 ) -> Result<(), PackError>
     ensures bytes { OnOk result (Adds out.old.items out.new.items (message_in number (T.fields item.now) ∷ [])) }
     ensures holds { OnOk result (T.holds item.now) }
+    ensures typed { OnOk result (T.typed levels item.now) }
     ensures fits { OnOk result (T.fits levels item.now) }
     ensures refused { IfErr result (Refuses (T.fits levels item.now)) }
 {
@@ -60,6 +65,7 @@ pub fn list<T: Packed>(
 ) -> Result<(), PackError>
     ensures bytes { OnOk result (Adds out.old.items out.new.items (repeated number (map T.fields items.now))) }
     ensures holds { OnOk result (AllByRecursion T.holds items.now) }
+    ensures typed { OnOk result (AllByRecursion (T.typed levels) items.now) }
     ensures fits { OnOk result (AllByRecursion (T.fits levels) items.now) }
     ensures refused { IfErr result (Refuses (AllByRecursion (T.fits levels) items.now)) }
 {
@@ -81,6 +87,7 @@ pub fn list_message<T: Packed>(
     ensures bytes { OnOk result
         (Adds out.old.items out.new.items (message_in number (repeated 1 (map T.fields items.now)) ∷ [])) }
     ensures holds { OnOk result (AllByRecursion T.holds items.now) }
+    ensures typed { OnOk result (AllByRecursion (T.typed levels) items.now) }
     ensures fits { OnOk result (AllByRecursion (T.fits levels) items.now) }
     ensures refused { IfErr result (Refuses (AllByRecursion (T.fits levels) items.now)) }
 {

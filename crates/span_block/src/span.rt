@@ -8,6 +8,7 @@ ghost use Rattle.otlp_protobuf_encode.specs.Writing.{trace_field, span_field, pa
 ghost use Rattle.otlp_protobuf_encode.specs.ReadsBack.{AreIds, ParentIsId, EventReadsBack, LinkReadsBack, HeadHolds, TimesHold};
 ghost use Rattle.span_block.specs.Fits.{EventFits, LinkFits, PartsFit, HasBlock, Refuses};
 ghost use Rattle.span_block.specs.Holds.{StatusHolds, PartsHold, SpanHolds};
+ghost use Rattle.span_block.specs.Typed.{EventIsTyped, LinkIsTyped, PartsAreTyped};
 
 use crate::kinds::{pack_count, pack_enumeration, pack_flags, pack_hex, pack_text, pack_time};
 use crate::pack_error::PackError;
@@ -101,6 +102,8 @@ impl Packed for Status {
 
     ghost holds = { StatusHolds };
 
+    ghost typed = { λ _ _. Unit {0} };
+
     fn pack(&self, _alloc: Global, _levels: u32, out: &mut Vec<u8>) -> Result<(), PackError> {
         pack_text(out, 2, &self.message)?;
         pack_enumeration(out, 3, &self.code)?;
@@ -128,6 +131,8 @@ impl Packed for Event {
 
     ghost holds = { EventReadsBack };
 
+    ghost typed = { EventIsTyped };
+
     fn pack(&self, alloc: Global, levels: u32, out: &mut Vec<u8>) -> Result<(), PackError> {
         pack_time(out, 1, self.time_unix_nano)?;
         pack_text(out, 2, &self.name)?;
@@ -143,6 +148,8 @@ impl Packed for Link {
     ghost fits = { LinkFits };
 
     ghost holds = { LinkReadsBack };
+
+    ghost typed = { LinkIsTyped };
 
     fn pack(&self, alloc: Global, levels: u32, out: &mut Vec<u8>) -> Result<(), PackError> {
         pack_hex(alloc, out, 1, &self.trace_id)?;
@@ -183,6 +190,7 @@ fn pack_times(out: &mut Vec<u8>, span: &Span) -> Result<(), AllocError>
 fn pack_tail(alloc: Global, out: &mut Vec<u8>, span: &Span) -> Result<(), PackError>
     ensures bytes { OnOk result (Adds out.old.items out.new.items (span_tail span.now)) }
     ensures holds { OnOk result (PartsHold span.now) }
+    ensures typed { OnOk result (PartsAreTyped span.now) }
     ensures fits { OnOk result (PartsFit span.now) }
     ensures refused { IfErr result (Refuses (PartsFit span.now)) }
 {
@@ -201,6 +209,7 @@ fn pack_tail(alloc: Global, out: &mut Vec<u8>, span: &Span) -> Result<(), PackEr
 pub fn pack_span(alloc: Global, out: &mut Vec<u8>, span: &Span) -> Result<(), PackError>
     ensures bytes { OnOk result (Adds out.old.items out.new.items (span_fields span.now)) }
     ensures holds { OnOk result (SpanHolds span.now) }
+    ensures typed { OnOk result (PartsAreTyped span.now) }
     ensures fits { OnOk result (HasBlock span.now) }
     ensures refused { IfErr result (Refuses (HasBlock span.now)) }
 {

@@ -11,6 +11,7 @@ ghost use Rattle.otlp_types.specs.declared.value.AnyValue.{Empty};
 ghost use Rattle.otlp_protobuf_encode.specs.Writing.{int_bits, value_fields, pair_fields};
 ghost use Rattle.span_block.specs.Fits.{ValueFits, SetFits, PairFits, Refuses};
 ghost use Rattle.span_block.specs.Holds.{ValueHolds, PairHolds};
+ghost use Rattle.span_block.specs.Typed.{ValueIsTyped, SetIsTyped, PairIsTyped};
 
 use crate::kinds::{pack_base64, pack_text};
 use crate::pack_error::PackError;
@@ -27,6 +28,8 @@ impl Packed for KeyValue {
 
     ghost holds = { PairHolds };
 
+    ghost typed = { PairIsTyped };
+
     #[cycle(pack)]
     fn pack(&self, alloc: Global, levels: u32, out: &mut Vec<u8>) -> Result<(), PackError> {
         pack_text(out, 1, &self.key)?;
@@ -41,6 +44,8 @@ impl Packed for AnyValue {
     ghost fits = { ValueFits };
 
     ghost holds = { ValueHolds };
+
+    ghost typed = { ValueIsTyped };
 
     #[cycle(pack)]
     fn pack(&self, alloc: Global, levels: u32, out: &mut Vec<u8>) -> Result<(), PackError> {
@@ -113,6 +118,7 @@ fn pack_set_value(
 ) -> Result<(), PackError>
     ensures bytes { OnOk result (Adds out.old.items out.new.items (message_field 2 (value_fields value.now))) }
     ensures holds { OnOk result (ValueHolds value.now) }
+    ensures typed { OnOk result (SetIsTyped levels value.now) }
     ensures fits { OnOk result (SetFits levels value.now) }
     ensures refused { IfErr result (Refuses (SetFits levels value.now)) }
 {

@@ -9,4 +9,5 @@ invariant-loop-item g l = record {
   written : Adds l.fn.out.items l.out.items (repeated l.number (map g.T.Packed.fields (take l.item-index l.all)));
   fits : AllByRecursion (g.T.Packed.fits l.levels) (take l.item-index l.all);
   holds : AllByRecursion g.T.Packed.holds (take l.item-index l.all);
+  typed : AllByRecursion (g.T.Packed.typed l.levels) (take l.item-index l.all);
 }

@@ -9,7 +9,7 @@ use Rattle.std.specs.List.{AllByRecursion}
 use Rattle.otlp_protobuf_encode.specs.Faults.{base64_fault}
 use Rattle.std.proofs.Common.{◌≡◌, None}
 use Rattle.span_block.proofs.Lists.{refuses_by}
-use Rattle.span_block.proofs.Values.{at_level, from_level, at_no_level, empty_fits, str_fits, truth_fits, int_fits, double_fits, array_fits, kv_list_fits, bytes_fits, array_below, kv_list_below, bytes_below, empty_holds, str_holds, truth_holds, int_holds, double_holds, array_holds, kv_list_holds, bytes_holds, pair_holds}
+use Rattle.span_block.proofs.Values.{typed_at, empty_typed, str_typed, truth_typed, int_typed, double_typed, array_typed, kv_list_typed, bytes_typed, at_level, from_level, at_no_level, empty_fits, str_fits, truth_fits, int_fits, double_fits, array_fits, kv_list_fits, bytes_fits, array_below, kv_list_below, bytes_below, empty_holds, str_holds, truth_holds, int_holds, double_holds, array_holds, kv_list_holds, bytes_holds, pair_holds}
 use Rattle.span_block.proofs.value.+pack.Goals as goal
 
 pub AnyValuePacked::pack-returns-in_default-clause-refused : goal.AnyValuePacked::pack-returns-in_default-clause-refused
@@ -93,3 +93,27 @@ pack_set_value-returns-then-not-is_set-clause-bytes t c = rw (c.is_set.ensures.u
 
 pub pack_set_value-returns-then-not-is_set-clause-holds : goal.pack_set_value-returns-then-not-is_set-clause-holds
 pack_set_value-returns-then-not-is_set-clause-holds t c = rw (c.is_set.ensures.unset c.if-not-is_set.true) empty_holds
+
+pub AnyValuePacked::pack-returns-in-Empty-clause-typed : goal.AnyValuePacked::pack-returns-in-Empty-clause-typed
+AnyValuePacked::pack-returns-in-Empty-clause-typed t c = rw c.in-Empty.is (typed_at c.args.levels c.in-Some.below _ c.in-Some.ensures (empty_typed c.in-Some.below))
+
+pub AnyValuePacked::pack-returns-in_ok-pack_string_value-in-Str-clause-typed : goal.AnyValuePacked::pack-returns-in_ok-pack_string_value-in-Str-clause-typed
+AnyValuePacked::pack-returns-in_ok-pack_string_value-in-Str-clause-typed t c = rw c.in-Str.is (typed_at c.args.levels c.in-Some.below _ c.in-Some.ensures (str_typed c.in-Some.below c.in-Str.text c.pack_string_value.ensures.text))
+
+pub AnyValuePacked::pack-returns-in_ok-write_varint-in-Bool-clause-typed : goal.AnyValuePacked::pack-returns-in_ok-write_varint-in-Bool-clause-typed
+AnyValuePacked::pack-returns-in_ok-write_varint-in-Bool-clause-typed t c = rw c.in-Bool.is (typed_at c.args.levels c.in-Some.below _ c.in-Some.ensures (truth_typed c.in-Some.below c.in-Bool.truth))
+
+pub AnyValuePacked::pack-returns-in_ok-pack_int_value-in-Int-clause-typed : goal.AnyValuePacked::pack-returns-in_ok-pack_int_value-in-Int-clause-typed
+AnyValuePacked::pack-returns-in_ok-pack_int_value-in-Int-clause-typed t c = rw c.in-Int.is (typed_at c.args.levels c.in-Some.below _ c.in-Some.ensures (int_typed c.in-Some.below c.in-Int.number c.pack_int_value.ensures.range))
+
+pub AnyValuePacked::pack-returns-in_ok-pack_double_value-in-Double-clause-typed : goal.AnyValuePacked::pack-returns-in_ok-pack_double_value-in-Double-clause-typed
+AnyValuePacked::pack-returns-in_ok-pack_double_value-in-Double-clause-typed t c = rw c.in-Double.is (typed_at c.args.levels c.in-Some.below _ c.in-Some.ensures (double_typed c.in-Some.below c.in-Double.double c.pack_double_value.ensures.range c.pack_double_value.ensures.back))
+
+pub AnyValuePacked::pack-returns-in_ok-list_message-in-Array-clause-typed : goal.AnyValuePacked::pack-returns-in_ok-list_message-in-Array-clause-typed
+AnyValuePacked::pack-returns-in_ok-list_message-in-Array-clause-typed t c = rw c.in-Array.is (typed_at c.args.levels c.in-Some.below _ c.in-Some.ensures (array_typed c.in-Some.below c.in-Array.values c.in_ok-list_message-in-Array.ensures.typed))
+
+pub AnyValuePacked::pack-returns-in_ok-list_message-in-KvList-clause-typed : goal.AnyValuePacked::pack-returns-in_ok-list_message-in-KvList-clause-typed
+AnyValuePacked::pack-returns-in_ok-list_message-in-KvList-clause-typed t c = rw c.in-KvList.is (typed_at c.args.levels c.in-Some.below _ c.in-Some.ensures (kv_list_typed c.in-Some.below c.in-KvList.pairs c.in_ok-list_message-in-KvList.ensures.typed))
+
+pub AnyValuePacked::pack-returns-in_ok-pack_base64-in-Bytes-clause-typed : goal.AnyValuePacked::pack-returns-in_ok-pack_base64-in-Bytes-clause-typed
+AnyValuePacked::pack-returns-in_ok-pack_base64-in-Bytes-clause-typed t c = rw c.in-Bytes.is (typed_at c.args.levels c.in-Some.below _ c.in-Some.ensures (bytes_typed c.in-Some.below c.in-Bytes.text c.in_ok-pack_base64-in-Bytes.ensures.back))

@@ -1,0 +1,7 @@
+pub mod Adding
+pub mod Lists
+pub mod Layers
+pub mod Groups
+pub mod Found
+pub mod Whole
+pub mod Counted

@@ -1,0 +1,8 @@
+use Rattle.std.proofs.Common.{sym, ap, ◌∙◌}
+use Rattle.std.specs.Float.{float_is_finite}
+use Rattle.otlp_json.proofs.Names.{finite_tokens}
+use Rattle.block_json.proofs.byte_sink.ByteSinkTokenSink.double.Goals as goal
+
+pub returns-then-is_finite : goal.returns-then-is_finite
+returns-then-is_finite c =
+    rw (finite_tokens c.args.x (sym (c.is_finite.ensures.value ∙ ap float_is_finite c.get-value.ensures.value) ∙ c.if-is_finite.true)) c.finite.ensures

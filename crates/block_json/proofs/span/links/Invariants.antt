@@ -1,0 +1,13 @@
+use Rattle.std.proofs.Common.{codes, length}
+use Rattle.otlp_protobuf.specs.Values.{most_levels}
+use Rattle.otlp_protobuf_encode.specs.Writing as wire
+use Rattle.otlp_json.specs.Writing.{link_fields}
+use Rattle.span_block.specs.Typed.{LinkIsTyped}
+use Rattle.block_json.proofs.Lists.{SoFar}
+use Rattle.block_json.proofs.span.links.Given as goal
+
+abbrev pub invariant-items : goal.invariant-items
+invariant-items g l = SoFar g.S.TokenSink.adds wire.link_fields (LinkIsTyped most_levels) link_fields (codes "links") 13 l.message l.items l.fn.out l.out
+
+abbrev pub decreases-items : goal.decreases-items
+decreases-items g l = length l.items
