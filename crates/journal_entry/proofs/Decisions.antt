@@ -10,9 +10,6 @@ use Rattle.journal_entry.specs.declared.error.EntryError.TheVariants as faults
 use Rattle.journal_entry.specs.Reading.{Front, ◌>>=◌, with_answer, decisions_at}
 use Rattle.journal_entry.specs.Seen.{behind}
 
-
-
-
 nothing_yet : (r : Front (List (List Bool))) → r ≡ behind [] [] r
 nothing_yet (Ok (later, left)) = refl
 nothing_yet (Err e) = refl

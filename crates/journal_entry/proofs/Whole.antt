@@ -80,13 +80,13 @@ arrival_put : (lane ordinal number moment : ℕ) (text : List ℕ) → lane < 2 
     ≡ Ok (span (record { conn = record { lane = lane; ordinal = ordinal }; number = number }) moment text)
 arrival_put lane ordinal number moment text a b c d =
     ap (λ (r : Front ℕ). r >>= (λ l. number_at l.1 >>= (λ o. number_at o.1 >>= (λ n. number_at n.1 >>= (λ m. let q : Result Framed EntryError = Ok (span (record { conn = record { lane = l.0; ordinal = o.0 }; number = n.0 }) m.0 m.1) in q)))))
-      (short_number_put lane (to_le_bytes w64 ordinal ++ (to_le_bytes w64 number ++ (to_le_bytes w64 moment ++ text))) a)
+    (short_number_put lane (to_le_bytes w64 ordinal ++ (to_le_bytes w64 number ++ (to_le_bytes w64 moment ++ text))) a)
     ∙ ap (λ (r : Front ℕ). r >>= (λ o. number_at o.1 >>= (λ n. number_at n.1 >>= (λ m. let q : Result Framed EntryError = Ok (span (record { conn = record { lane = lane; ordinal = o.0 }; number = n.0 }) m.0 m.1) in q))))
-      (number_put ordinal (to_le_bytes w64 number ++ (to_le_bytes w64 moment ++ text)) b)
+    (number_put ordinal (to_le_bytes w64 number ++ (to_le_bytes w64 moment ++ text)) b)
     ∙ ap (λ (r : Front ℕ). r >>= (λ n. number_at n.1 >>= (λ m. let q : Result Framed EntryError = Ok (span (record { conn = record { lane = lane; ordinal = ordinal }; number = n.0 }) m.0 m.1) in q)))
-      (number_put number (to_le_bytes w64 moment ++ text) c)
+    (number_put number (to_le_bytes w64 moment ++ text) c)
     ∙ ap (λ (r : Front ℕ). r >>= (λ m. let q : Result Framed EntryError = Ok (span (record { conn = record { lane = lane; ordinal = ordinal }; number = number }) m.0 m.1) in q))
-      (number_put moment text d)
+    (number_put moment text d)
 
 item_put : (it : Item) → ReadsBack it → item_at (bytes_of_item it) ≡ Ok (framed it)
 unfolding framed
@@ -138,7 +138,7 @@ one_item (span key moment text) x y (r, isr, p) (s, iss, q) = p ∙ ap (λ r. Sp
 pub bytes_are_one_entry_lem : BytesAreOneEntry
 bytes_are_one_entry_lem bytes e f (i, ei, pi) (j, fj, pj) =
     let same : (let x : Frame = record { refused = e.refused; lost = e.lost; answers = e.answers; item = i } in x) ≡ record { refused = f.refused; lost = f.lost; answers = f.answers; item = j } =
-      ok_is (frame_of bytes) _ _ ei fj in
+    ok_is (frame_of bytes) _ _ ei fj in
     let item : e.item ≡ f.item = one_item j e.item f.item (subst (λ k. IsFramed k e.item) (ap (λ x. x.item) same) pi) pj in
     ap (λ (x : Frame). let q : JournalEntry = record { item = e.item; refused = x.refused; lost = x.lost; answers = x.answers } in q) same
     ∙ ap (λ (it : Item). let q : JournalEntry = record { item = it; refused = f.refused; lost = f.lost; answers = f.answers } in q) item
@@ -167,8 +167,8 @@ pub back_of : (bytes : List ℕ) (r : Result JournalEntry EntryError) → IfOk r
 back_of bytes (Ok found) is none e back same = bytes_are_one_entry_lem bytes found e is (subst (λ (b : List ℕ). IsEntry b e) (sym same) (is_read e back))
 back_of bytes (Err error) is none e back same =
     elim none [
-      inl memory ↦ memory
-    | inr found ↦ absurd (no_entry bytes e error found (subst (λ (b : List ℕ). IsEntry b e) (sym same) (is_read e back)))
+      | inl memory ↦ memory
+      | inr found ↦ absurd (no_entry bytes e error found (subst (λ (b : List ℕ). IsEntry b e) (sym same) (is_read e back)))
     ]
 
 frame_is : (bytes l₁ l₂ l₃ l₄ : List ℕ) (version : ℕ) (refused lost : Bool) (answers : List (List Bool)) → byte_at bytes ≡ Ok (version, l₁) → version ≡ 1

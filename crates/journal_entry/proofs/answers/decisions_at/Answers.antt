@@ -8,15 +8,15 @@ use Rattle.journal_entry.proofs.answers.decisions_at.Goals.{in-0+in_ok-push-in-0
 pub loop-i-preserved : goal.loop-i-preserved
 loop-i-preserved c =
     elim c.match-bytes-i.branch [
-      in-0+in_ok-push-in-0 w ↦
-        let e = step_refused c.args.bytes.now c.loop-i.i c.loop-i.decisions c.loop-i.answers (omega arith) w.in-0.is c.loop-i.invariant in
-        cc (e, w.decisions-is, w.answers-is, w.in_ok-push-in-0.ensures.ok)
-    | in-1+in_ok-push-in-1 w ↦
-        let e = step_granted c.args.bytes.now c.loop-i.i c.loop-i.decisions c.loop-i.answers (omega arith) w.in-1.is c.loop-i.invariant in
-        cc (e, w.decisions-is, w.answers-is, w.in_ok-push-in-1.ensures.ok)
-    | in-2+in_ok-push-in-2 w ↦
-        let e = step_next c.args.bytes.now c.loop-i.i c.loop-i.decisions c.loop-i.answers (omega arith) w.in-2.is c.loop-i.invariant in
-        cc (e, w.decisions-is, w.answers-is, w.in_ok-push-in-2.ensures.ok, w.replace.ensures.value, w.replace.ensures.after, w.new.ensures)
+      | in-0+in_ok-push-in-0 w ↦
+          let e = step_refused c.args.bytes.now c.loop-i.i c.loop-i.decisions c.loop-i.answers (omega arith) w.in-0.is c.loop-i.invariant in
+          cc (e, w.decisions-is, w.answers-is, w.in_ok-push-in-0.ensures.ok)
+      | in-1+in_ok-push-in-1 w ↦
+          let e = step_granted c.args.bytes.now c.loop-i.i c.loop-i.decisions c.loop-i.answers (omega arith) w.in-1.is c.loop-i.invariant in
+          cc (e, w.decisions-is, w.answers-is, w.in_ok-push-in-1.ensures.ok)
+      | in-2+in_ok-push-in-2 w ↦
+          let e = step_next c.args.bytes.now c.loop-i.i c.loop-i.decisions c.loop-i.answers (omega arith) w.in-2.is c.loop-i.invariant in
+          cc (e, w.decisions-is, w.answers-is, w.in_ok-push-in-2.ensures.ok, w.replace.ensures.value, w.replace.ensures.after, w.new.ensures)
     ]
 
 pub returns-then-is_empty : goal.returns-then-is_empty
