@@ -1,0 +1,3 @@
+pub mod GivenAnswers
+pub mod TakenAgain
+pub mod Journals
