@@ -6,7 +6,7 @@ use Rattle.otlp_types.specs.declared.request.Request.{Request}
 use Rattle.span_ids.specs.declared.keys.ConnKey.{ConnKey}
 use Rattle.world_theory.proofs.Samples.{plain}
 use Rattle.tsc_script.specs.Instructions.{Instruction, receive, tick, close}
-use Rattle.script_line.specs.Entries.{Entry, request, ticked}
+use Rattle.script_line.specs.Entries.{Entry, request as recorded, ticked}
 use Rattle.record_laws.specs.Recorded.{Came, all_said_on, recorded_on, spans_from}
 
 -- connection 3 says two things, and connection 4 one between them
@@ -24,7 +24,7 @@ said_on_5 = refl
 
 -- the same as a record: a body of two lines is one of one line there
 abbrev entries : List Entry
-entries = request 3 10 (65 ∷ []) ∷ ticked 11 ∷ request 4 12 (66 ∷ []) ∷ request 3 13 (67 ∷ 10 ∷ 68 ∷ []) ∷ []
+entries = recorded 3 10 (65 ∷ []) ∷ ticked 11 ∷ recorded 4 12 (66 ∷ []) ∷ recorded 3 13 (67 ∷ 10 ∷ 68 ∷ []) ∷ []
 
 recorded_on_3 : flat_map (recorded_on 3) entries ≡ record { moment = 10; body = 65 ∷ [] } ∷ record { moment = 13; body = 67 ∷ 32 ∷ 68 ∷ [] } ∷ []
 recorded_on_3 = refl
