@@ -5,7 +5,7 @@ use Rattle.std.proofs.lemmas.List.{length-map}
 use Rattle.std.proofs.lemmas.List.Elements.{All-pop}
 use Rattle.atomic_table.specs.Seated.{TableId}
 use Rattle.otlp_types.specs.declared.arrival.Item.{Item}
-use Rattle.otlp_types.specs.declared.arrival.Shipment.{Shipment}
+use Rattle.released_spans.specs.declared.shipment.Shipment.{Shipment}
 use Rattle.lane_queue.specs.Ends.{EndState, ReceiverState, AreTied, WaitAs}
 use Rattle.policy_tree.specs.declared.limiter_node.LimiterNode.{LimiterNode}
 use Rattle.lane_queue.specs.Grid.{IsTiedGrid, AreNewColumns, ColumnsWaitAs}

@@ -6,7 +6,7 @@ use Rattle.std.proofs.lemmas.List.{length-map, map-append}
 use Rattle.std.proofs.lemmas.List.Elements.{All-nil, All-cons, All-head, All-tail}
 use Rattle.atomic_table.specs.Seated.{TableId}
 use Rattle.otlp_types.specs.declared.arrival.Item.{Item}
-use Rattle.otlp_types.specs.declared.arrival.Shipment.{Shipment}
+use Rattle.released_spans.specs.declared.shipment.Shipment.{Shipment}
 use Rattle.lane_queue.specs.Ends.{EndState, queues, AreTied, HasHistoryAt}
 use Rattle.lane_worker.specs.Serving.{LaneAt}
 use Rattle.policy_tree.specs.declared.limiter_node.LimiterNode.{LimiterNode}

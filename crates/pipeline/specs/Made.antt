@@ -1,7 +1,7 @@
 -- What the threads of a run are given, and the lists into which what they leave is gathered.
 use Rattle.std.specs.Prelude.{◌≡◌, ℕ, ◌+◌, Bool, true, false, List, [], ◌∷◌, ◌++◌, length, All}
 use Rattle.otlp_types.specs.declared.arrival.Item.{Item}
-use Rattle.otlp_types.specs.declared.arrival.Shipment.{Shipment}
+use Rattle.released_spans.specs.declared.shipment.Shipment.{Shipment}
 use Rattle.lane_queue.specs.Ends.{EndState, ReceiverState, AreTied, IsNew}
 use Rattle.policy_tree.specs.Tree.{limiters}
 use Rattle.policy_tree.specs.Meaning.{meaning}

@@ -5,7 +5,7 @@ use native.Mathlib.Decide.{ℕ_discrete}
 use Rattle.std.proofs.lemmas.List.{map-append, append-nil}
 use Rattle.otlp_types.specs.declared.arrival.Item.{Item}
 use Rattle.otlp_types.specs.declared.arrival.Item.TheVariants.{Span, Tick, End}
-use Rattle.otlp_types.specs.declared.arrival.Shipment.{Shipment}
+use Rattle.released_spans.specs.declared.shipment.Shipment.{Shipment}
 use Rattle.drop_ledger.specs.Places.{TallyState}
 use Rattle.lane_queue.specs.declared.calls.Call.{Call}
 use Rattle.lane_queue.specs.declared.calls.Call.TheVariants.{Popped, FoundEmpty}

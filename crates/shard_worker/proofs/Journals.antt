@@ -5,8 +5,8 @@ use Rattle.std.specs.Prelude.{◌&&◌}
 use Rattle.std.specs.List.{list_all}
 use Rattle.std.proofs.lemmas.List.{map-append, append-nil, reverse-append}
 use Rattle.otlp_types.specs.declared.arrival.Item.{Item}
-use Rattle.otlp_types.specs.declared.arrival.Shipment.{Shipment}
-use Rattle.otlp_types.specs.declared.arrival.Shipment.TheVariants.{End}
+use Rattle.released_spans.specs.declared.shipment.Shipment.{Shipment}
+use Rattle.released_spans.specs.declared.shipment.Shipment.TheVariants.{End}
 use Rattle.drop_ledger.specs.declared.count.Count.{Count}
 use Rattle.drop_ledger.specs.declared.count.Count.TheVariants.{Received, Handed, Dropped}
 use Rattle.drop_ledger.specs.Places.{TallyState, Tallies}
@@ -20,7 +20,9 @@ use Rattle.shard_core.specs.Held.{Held, settings, StandsFor, is_finished}
 use Rattle.journal_theory.specs.Standing.{Standing, ends}
 use Rattle.journal_theory.specs.Marked.{MarksApply}
 use Rattle.shard_worker.specs.Asking.{AskedBy}
-use Rattle.shard_worker.specs.Work.{shipments, items, HaveIds, with_ids, journal_of, counted_in, ShardWorks, TicksWait}
+use Rattle.released_spans.specs.Shipping.{AreShipped}
+use Rattle.released_spans.proofs.Shipping.{shipped_none}
+use Rattle.shard_worker.specs.Work.{items, HaveIds, with_ids, journal_of, counted_in, ShardWorks, TicksWait}
 use Rattle.shard_worker.specs.Turns.{counted_dealt, HasDone, HasTaken}
 
 filter-append : {X : Type 0} (p : X → Bool) (xs ys : List X) → filter p (xs ++ ys) ≡ filter p xs ++ filter p ys
@@ -77,7 +79,7 @@ pub kept_none : {L : Type 0} (asks : L → ℕ → ℕ → ℕ → Bool → L �
 kept_none asks first s ends shard shipped tally merge stands none = (
   merge,
   tt,
-  record { dealt = 0; all_dealt = refl; answered = tt; at = record { stands = stands; shipped_is = none; counted = tallies_none (counted_dealt (settings shard) [] 0) tally nothing; asked = refl } },
+  record { dealt = 0; all_dealt = refl; answered = tt; at = record { stands = stands; shipped_is = subst (λ (z : List Shipment). AreShipped z []) (sym none) shipped_none; counted = tallies_none (counted_dealt (settings shard) [] 0) tally nothing; asked = refl } },
 ) where
   nothing : (count : Count) → counted_dealt (settings shard) [] 0 count ≡ 0
   nothing Received = refl
@@ -123,7 +125,7 @@ works asks first capacity number s shard receiver items_shipped sender before ta
       marked = kept.1;
       answered = subst (λ z. IsAnswered z J) is done.answered;
       asked = subst (λ z. AskedBy asks z J first limiter) is done.at.asked;
-      shipped = shipped ∙ ap (λ l. l ++ End number ∷ []) (done.at.shipped_is ∙ ap (λ z. shipments (effect_dealt z J done.dealt).released) is ∙ ap (λ (e : Effect). shipments e.released) same);
+      shipped = (items_shipped, shipped, subst (AreShipped items_shipped) (ap (λ z. (effect_dealt z J done.dealt).released) is ∙ ap (λ (e : Effect). e.released) same) done.at.shipped_is);
       counted = tallies_same (counted_dealt s J done.dealt) (counted_in s J) before tally (λ count. sym (counts count)) (subst (λ z. Tallies (counted_dealt z J done.dealt) before tally) is done.at.counted);
     } where
       counts : (count : Count) → counted_dealt s (journal_of popped) kept.2.dealt count ≡ counted_in s (journal_of popped) count

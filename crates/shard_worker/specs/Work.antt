@@ -4,8 +4,9 @@ use Rattle.std.specs.List.{AllByRecursion}
 use Rattle.otlp_types.specs.declared.arrival.Arrival.{Arrival}
 use Rattle.otlp_types.specs.declared.arrival.Item.{Item}
 use Rattle.otlp_types.specs.declared.arrival.Item.TheVariants.{Tick}
-use Rattle.otlp_types.specs.declared.arrival.Shipment.{Shipment}
-use Rattle.otlp_types.specs.declared.arrival.Shipment.TheVariants.{Span, End}
+use Rattle.released_spans.specs.declared.shipment.Shipment.{Shipment}
+use Rattle.released_spans.specs.declared.shipment.Shipment.TheVariants.{End}
+use Rattle.released_spans.specs.Shipping.{AreShipped}
 use Rattle.drop_ledger.specs.declared.count.Count.{Count}
 use Rattle.drop_ledger.specs.declared.count.Count.TheVariants.{Received, Handed, Dropped}
 use Rattle.drop_ledger.specs.Places.{TallyState, Tallies}
@@ -20,10 +21,6 @@ use Rattle.journal_theory.specs.Fate.{effect, output, under}
 use Rattle.shard_core.specs.Held.{Held, StandsFor}
 use Rattle.journal_theory.specs.Marked.{MarksApply}
 use Rattle.shard_worker.specs.Asking.{AskedBy}
-
--- the spans, as the exporter takes them
-abbrev pub shipments : List Arrival → List Shipment
-shipments spans = map (λ a. Span a) spans
 
 -- the popped items without their marks, each with the number of its sender
 abbrev pub items : List (ℕ × Entry) → List (ℕ × Item)
@@ -145,6 +142,6 @@ pub record ShardWorks {L : Type 0} (asks : L → ℕ → ℕ → ℕ → Bool �
   -- the limiter had just the askings of these decisions, in order, and gave these answers
   pub asked : AskedBy asks s (journal_of popped) first last
   -- what was shipped is that journal's output, and then the End
-  pub shipped : sender.items ≡ shipments (output s (journal_of popped)) ++ End number ∷ []
+  pub shipped : (shipped : List Shipment) × (sender.items ≡ shipped ++ End number ∷ []) × AreShipped shipped (output s (journal_of popped))
   -- what was counted is what that journal counts
   pub counted : Tallies (counted_in s (journal_of popped)) before after

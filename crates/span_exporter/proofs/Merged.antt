@@ -1,8 +1,8 @@
 -- What was popped of the shards' queues in turns.
 -- For the contract of `work`.
 use Rattle.std.proofs.Common.{◌≡◌, ℕ, List, [], ◌∷◌, ◌++◌, refl, sym, ap, ◌∙◌, subst, append_assoc, append-nil}
-use Rattle.std.specs.Prelude.{Option, Some, None}
-use Rattle.otlp_types.specs.declared.arrival.Shipment.{Shipment}
+use Rattle.std.specs.Prelude.{Some, None}
+use Rattle.released_spans.specs.declared.shipment.Shipment.{Shipment}
 use Rattle.lane_queue.specs.Ends.{ReceiverState, PopsAt, queues, with_item}
 use Rattle.lane_queue.specs.Merges.{IsMergeOf}
 use Rattle.lane_queue.proofs.EndLists.{same_queues}

@@ -4,13 +4,14 @@ use Rattle.std.proofs.Common.{◌≡◌, ◌≢◌, ℕ, zero, suc, ◌<◌, ◌
 use Rattle.std.specs.Prelude.{Some, slice_get, ◌||◌}
 use Rattle.std.specs.List.{All, list_any, list_all, flat_map}
 use native.Mathlib.Decide.{ℕ_discrete}
-use Rattle.otlp_types.specs.declared.arrival.Shipment.{Shipment}
-use Rattle.otlp_types.specs.declared.arrival.Shipment.TheVariants.{Span, End}
+use Rattle.released_spans.specs.declared.shipment.Shipment.{Shipment}
+use Rattle.released_spans.specs.declared.shipment.Shipment.TheVariants.{Span, End}
 use Rattle.drop_ledger.specs.Places.{TallyState, Tallies}
 use Rattle.span_exporter.specs.declared.answer.Flushed.{Flushed}
 use Rattle.span_exporter.specs.Exports.{ExporterState, have_all_ended, with_shipment}
 use Rattle.span_exporter.specs.Calls.{ExporterCall, pulled, flushed, noted, spans_pulled, batches_flushed, AnswersFor}
-use Rattle.span_exporter.specs.Work.{calls_of, shipments_in, is_shipped_end, has_ended, counted_in, WorksWherever}
+use Rattle.released_spans.specs.Shipping.{is_shipped_end}
+use Rattle.span_exporter.specs.Work.{calls_of, shipments_in, has_ended, counted_in, WorksWherever}
 use Rattle.span_exporter.specs.Sending.{Sent}
 use Rattle.span_exporter.proofs.Keeping.{spans_are_kept}
 
@@ -61,7 +62,7 @@ set_length (x ∷ xs) zero w = refl
 set_length (x ∷ xs) (suc i) w = ap suc (set_length xs i w)
 
 pub same_length : (shipment : Shipment) (old : ExporterState) → length (with_shipment shipment old).ends ≡ length old.ends
-same_length (Span a) old = refl
+same_length (Span a policy) old = refl
 same_length (End s) old = set_length old.ends s true
 
 told_one : (ends : List Bool) (shipments : List (ℕ × Shipment)) (place s shard : ℕ) → EndsTold ends shipments → Dec (s ≡ shard) → slice_get (set ends s true) shard ≡ Some true → has_ended (shipments ++ (place, End s) ∷ []) shard ≡ true
@@ -72,7 +73,7 @@ told_one ends shipments place s shard told (no apart) at =
 
 -- one more shipment
 pub told_more : (old : ExporterState) (shipments : List (ℕ × Shipment)) (place : ℕ) (shipment : Shipment) → EndsTold old.ends shipments → EndsTold (with_shipment shipment old).ends (shipments ++ (place, shipment) ∷ [])
-told_more old shipments place (Span a) told shard at = any-append (λ (x : ℕ × Shipment). is_shipped_end shard x.1) shipments ((place, Span a) ∷ []) ∙ or_true (has_ended shipments shard) _ (told shard at)
+told_more old shipments place (Span a policy) told shard at = any-append (λ (x : ℕ × Shipment). is_shipped_end shard x.1) shipments ((place, Span a policy) ∷ []) ∙ or_true (has_ended shipments shard) _ (told shard at)
 told_more old shipments place (End s) told shard at = told_one old.ends shipments place s shard told (ℕ_discrete s shard) at
 
 ended_at : (ends : List Bool) (shard : ℕ) → list_all (λ b. b) ends ≡ true → shard < length ends → slice_get ends shard ≡ Some true

@@ -1,9 +1,9 @@
 -- The turns of the exporter's thread, one more each time.
 -- For the clause `works` of `work_from`.
-use Rattle.std.proofs.Common.{◌≡◌, ℕ, ◌<◌, List, [], ◌∷◌, ◌++◌, length, refl, sym, ap, subst}
+use Rattle.std.proofs.Common.{◌≡◌, ℕ, List, [], ◌∷◌, ◌++◌, refl, sym, ap, subst}
 use Rattle.std.specs.Prelude.{Option, Some, None}
 use Rattle.std.specs.List.{AllByRecursion}
-use Rattle.otlp_types.specs.declared.arrival.Shipment.{Shipment}
+use Rattle.released_spans.specs.declared.shipment.Shipment.{Shipment}
 use Rattle.drop_ledger.specs.Places.{TallyState}
 use Rattle.span_exporter.specs.declared.answer.Pulled.{Pulled}
 use Rattle.span_exporter.specs.declared.answer.Flushed.{Flushed}

@@ -1,7 +1,7 @@
 -- When the exporter's thread flushes: each turn is a pop, and what was called behind it.
 use Rattle.std.specs.Prelude.{◌≡◌, ℕ, ◌<◌, Bool, true, false, List, [], ◌∷◌, length, Option, Some, None}
 use Rattle.std.specs.List.{AllByRecursion}
-use Rattle.otlp_types.specs.declared.arrival.Shipment.{Shipment}
+use Rattle.released_spans.specs.declared.shipment.Shipment.{Shipment}
 use Rattle.lane_queue.specs.Ends.{ReceiverState, PopsAt, WasEmptyAt}
 use Rattle.span_exporter.specs.declared.answer.Pulled.{Pulled}
 use Rattle.span_exporter.specs.declared.answer.Pulled.TheVariants.{Added, AddedFull, Ended, Finished}

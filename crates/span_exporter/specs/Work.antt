@@ -1,8 +1,8 @@
 -- What the exporter's thread did.
-use Rattle.std.specs.Prelude.{◌≡◌, ℕ, ◌<◌, ◌==◌, Bool, true, false, if◌then◌else◌, List, [], ◌∷◌, length, map}
+use Rattle.std.specs.Prelude.{◌≡◌, ℕ, ◌<◌, ◌==◌, Bool, true, if◌then◌else◌, List, [], ◌∷◌, length, map}
 use Rattle.std.specs.List.{All, AllByRecursion, flat_map, sum_by, list_any}
-use Rattle.otlp_types.specs.declared.arrival.Shipment.{Shipment}
-use Rattle.otlp_types.specs.declared.arrival.Shipment.TheVariants.{Span, End}
+use Rattle.released_spans.specs.declared.shipment.Shipment.{Shipment}
+use Rattle.released_spans.specs.Shipping.{is_shipped_end}
 use Rattle.drop_ledger.specs.declared.count.Count.{Count}
 use Rattle.drop_ledger.specs.declared.count.Count.TheVariants.{Handed as HandedOver, Dropped}
 use Rattle.drop_ledger.specs.Places.{place_of, TallyState, Tallies}
@@ -29,11 +29,6 @@ abbrev pub NotesNothing : ExporterCall → Type 0
 NotesNothing (pulled shipment answer) = Unit {0}
 NotesNothing (flushed answer) = Unit {0}
 NotesNothing (noted line answer) = ⊥
-
--- the shipment is the End of this shard
-abbrev pub is_shipped_end : (shard : ℕ) → Shipment → Bool
-is_shipped_end shard (Span a) = false
-is_shipped_end shard (End s) = s == shard
 
 -- the shard's End is among the shipments
 abbrev pub has_ended : List (ℕ × Shipment) → (shard : ℕ) → Bool

@@ -1,10 +1,10 @@
 //! Where the exporter's thread takes shipments from.
 ghost use Rattle.std.specs.Prelude.{◌≡◌, ℕ, Option, Some, None, IfSome, IfNone};
-ghost use Rattle.otlp_types.specs.declared.arrival.Shipment.{Shipment as ShipmentValue};
+ghost use Rattle.released_spans.specs.declared.shipment.Shipment.{Shipment as ShipmentValue};
 ghost use Rattle.span_exporter.specs.Turns.{Pops};
 
 use lane_queue::{Pause, Receiver, Room};
-use otlp_types::Shipment;
+use released_spans::Shipment;
 use std::sync::Wait;
 use std::time::Clock;
 

@@ -3,13 +3,13 @@
 use Rattle.std.proofs.Common.{◌≡◌, ◌⊎◌, inl, inr, ℕ, ◌<◌, Bool, true, false, not, ◌||◌, cond, nat_lt, List, [], ◌∷◌, ◌++◌, length, Option, Some, None, option_and_then, refl, ap, sym, subst, ◌∙◌, arith, append_assoc, append-nil, lt-ltb}
 use Rattle.std.specs.List.{AllByRecursion}
 use Rattle.otlp_types.specs.declared.arrival.Arrival.{Arrival}
-use Rattle.otlp_types.specs.declared.arrival.Shipment.TheVariants.{Span, End}
+use Rattle.released_spans.specs.declared.shipment.Shipment.TheVariants.{Span, End}
 use Rattle.span_ids.specs.declared.outcome.Reason.{Reason}
 use Rattle.span_ids.specs.declared.outcome.Reason.TheVariants.{InvalidId, QueueFull, NoMemory, Evicted, NotSampled, LateNotSampled, ExporterDown}
 use Rattle.journal_theory.specs.Fate.{DroppedSpan, counts}
 use Rattle.span_sink.specs.Manners.{Manner, takes_all, may_refuse, prints_refused, refuses}
 use Rattle.span_sink.specs.LineSinks.{LineSinkState, Refuses}
-use Rattle.span_exporter.specs.Exports.{ExporterState, with_shipment, Sends, DropsBatch, RefusesBatch, SendsTo}
+use Rattle.span_exporter.specs.Exports.{ExporterState, with_shipment, records_to_send, DropsLineOf, SendsLineOf, RefusesLineOf, SendsLineTo}
 use Rattle.span_exporter.proofs.Keeping.{sent_or_refused}
 use Rattle.span_exporter.specs.Calls.{ExporterCall, pulled, flushed, noted, CallsLead}
 use Rattle.span_exporter.specs.declared.answer.Flushed.{Flushed}
@@ -68,12 +68,12 @@ module _ (c : CoreConfig) where
   record FlushActs (old : ExporterState) (answer : Flushed) (sink : LineSinkState) (H : List (List Arrival)) (K : List DroppedSpan) : Type 0 where
     pub acts : List ExporterAct
     pub none : pulls acts ≡ []
-    pub leads : after_acts c (with_past old H K) acts ≡ Some (with_past (record old { batch = []; sink = sink }) (H ++ handed_by answer old.batch) (K ++ counted_by answer old.batch))
+    pub leads : after_acts c (with_past old H K) acts ≡ Some (with_past (record old { batch = []; policies = []; sink = sink }) (H ++ handed_by answer old.batch) (K ++ counted_by answer old.batch))
 
   one_act : (x y : ExporterMade) (act : ExporterAct) → after_act c x act ≡ Some y → after_acts c x (act ∷ []) ≡ Some y
   one_act x y act e = ap (option_and_then (λ (z : ExporterMade). Some z)) e
 
-  flush_batch_dropped : (old : ExporterState) (n : ℕ) (why : Reason) (sink : LineSinkState) (H : List (List Arrival)) (K : List DroppedSpan) → 0 < n → n ≡ length old.batch → DropsBatch why old.sink old.batch sink → FlushActs old (BatchDropped n why) sink H K
+  flush_batch_dropped : (old : ExporterState) (n : ℕ) (why : Reason) (sink : LineSinkState) (H : List (List Arrival)) (K : List DroppedSpan) → 0 < n → n ≡ length old.batch → DropsLineOf (records_to_send old) why old.sink sink → FlushActs old (BatchDropped n why) sink H K
   flush_batch_dropped old n NoMemory sink H K some e h = record {
     acts = batch_dropped NoMemory ∷ [];
     none = refl;
@@ -104,7 +104,7 @@ module _ (c : CoreConfig) where
   flush_batch_dropped old n NotSampled sink H K some e h = absurd h
   flush_batch_dropped old n LateNotSampled sink H K some e h = absurd h
 
-  flush_acts : (old : ExporterState) (answer : Flushed) (sink : LineSinkState) (H : List (List Arrival)) (K : List DroppedSpan) → Sends old.sink old.batch answer sink → FlushActs old answer sink H K
+  flush_acts : (old : ExporterState) (answer : Flushed) (sink : LineSinkState) (H : List (List Arrival)) (K : List DroppedSpan) → SendsLineOf (records_to_send old) old.sink old.batch answer sink → FlushActs old answer sink H K
   flush_acts old Empty sink H K h = record {
     acts = [];
     none = refl;
@@ -122,7 +122,7 @@ module _ (c : CoreConfig) where
   }
   flush_acts old (BatchDropped n why) sink H K h = flush_batch_dropped old n why sink H K h.0 h.1 h.2
 
-  flush_refused : (old : ExporterState) (answer : Flushed) (sink : LineSinkState) (H : List (List Arrival)) (K : List DroppedSpan) → old.manner ≡ c.manner → RefusesBatch old.manner old.sink old.batch answer sink → FlushActs old answer sink H K
+  flush_refused : (old : ExporterState) (answer : Flushed) (sink : LineSinkState) (H : List (List Arrival)) (K : List DroppedSpan) → old.manner ≡ c.manner → RefusesLineOf (records_to_send old) old.manner old.sink old.batch answer sink → FlushActs old answer sink H K
   flush_refused old answer sink H K same h = subst (λ (f : Flushed). FlushActs old f sink H K) (sym h.1) (record {
     acts = batch_dropped ExporterDown ∷ [];
     none = refl;
@@ -135,10 +135,10 @@ module _ (c : CoreConfig) where
       up : (refuses old.manner ≡ true) × (old.sink.is_down ≡ false) × (sink.is_down ≡ false)
       up = refused_while_up old.manner old.sink h.2.0 sink h.2.2
 
-  flush_acts_to : (old : ExporterState) (answer : Flushed) (sink : LineSinkState) (H : List (List Arrival)) (K : List DroppedSpan) → old.manner ≡ c.manner → SendsTo old.manner old.sink old.batch answer sink → FlushActs old answer sink H K
-  flush_acts_to old answer sink H K same h = go (sent_or_refused old.manner old.sink sink old.batch answer h)
+  flush_acts_to : (old : ExporterState) (answer : Flushed) (sink : LineSinkState) (H : List (List Arrival)) (K : List DroppedSpan) → old.manner ≡ c.manner → SendsLineTo (records_to_send old) old.manner old.sink old.batch answer sink → FlushActs old answer sink H K
+  flush_acts_to old answer sink H K same h = go (sent_or_refused (records_to_send old) old.manner old.sink sink old.batch answer h)
     where
-      go : Sends old.sink old.batch answer sink ⊎ RefusesBatch old.manner old.sink old.batch answer sink → FlushActs old answer sink H K
+      go : SendsLineOf (records_to_send old) old.sink old.batch answer sink ⊎ RefusesLineOf (records_to_send old) old.manner old.sink old.batch answer sink → FlushActs old answer sink H K
       go (inl sent) = flush_acts old answer sink H K sent
       go (inr refused) = flush_refused old answer sink H K same refused
 
@@ -157,19 +157,19 @@ module _ (c : CoreConfig) where
         ∙ ap (λ (z : List DroppedSpan). Some (with_past new (H ++ []) z)) (sym (append-nil K));
     pulls_are = refl;
   }
-  acts_of ((k, pulled (Span a) answer) ∷ calls) old new H K size same quiet h =
-      let r = acts_of calls (with_shipment (Span a) old) new H K size same quiet.1 (subst (λ (e : ExporterState). CallsLead e (calls_of calls) new) h.1.1 h.2) in
+  acts_of ((k, pulled (Span a policy) answer) ∷ calls) old new H K size same quiet h =
+      let r = acts_of calls (with_shipment (Span a policy) old) new H K size same quiet.1 (subst (λ (e : ExporterState). CallsLead e (calls_of calls) new) h.1.1 h.2) in
       let room : nat_lt (length old.batch) c.batch_size ≡ true = lt-ltb (length old.batch) c.batch_size (omega (arith, h.1.0, size)) in
       record {
         acts = pulled_of k a ∷ r.acts;
-        leads = ap (λ b. option_and_then (λ (z : ExporterMade). after_acts c z r.acts) (cond b (Some (with_past (with_shipment (Span a) old) H K)) None)) room ∙ r.leads;
+        leads = ap (λ b. option_and_then (λ (z : ExporterMade). after_acts c z r.acts) (cond b (Some (with_past (with_shipment (Span a policy) old) H K)) None)) room ∙ r.leads;
         pulls_are = ap (λ (z : List (ℕ × Arrival)). (k, a) ∷ z) r.pulls_are;
       }
   acts_of ((k, pulled (End s) answer) ∷ calls) old new H K size same quiet h =
       let r = acts_of calls (with_shipment (End s) old) new H K size same quiet.1 (subst (λ (e : ExporterState). CallsLead e (calls_of calls) new) h.1.1 h.2) in
       record { acts = r.acts; leads = r.leads; pulls_are = r.pulls_are }
   acts_of ((k, flushed answer) ∷ calls) old new H K size same quiet h =
-      let mid : ExporterState = record old { batch = []; sink = h.0.sink } in
+      let mid : ExporterState = record old { batch = []; policies = []; sink = h.0.sink } in
       let f = flush_acts_to old answer h.0.sink H K same h.1.0 in
       let r = acts_of calls mid new (H ++ handed_by answer old.batch) (K ++ counted_by answer old.batch) size same quiet.1 (subst (λ (e : ExporterState). CallsLead e (calls_of calls) new) h.1.1 h.2) in
       record {

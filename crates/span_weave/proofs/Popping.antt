@@ -7,15 +7,16 @@ use native.Mathlib.Decide.{ℕ_discrete}
 use Rattle.otlp_types.specs.declared.arrival.Arrival.{Arrival}
 use Rattle.otlp_types.specs.declared.arrival.Item.{Item}
 use Rattle.otlp_types.specs.declared.arrival.Item.TheVariants.{End}
-use Rattle.otlp_types.specs.declared.arrival.Shipment.{Shipment}
-use Rattle.otlp_types.specs.declared.arrival.Shipment.TheVariants.{Span as ShippedSpan, End as ShippedEnd}
+use Rattle.released_spans.specs.declared.shipment.Shipment.{Shipment}
+use Rattle.released_spans.specs.declared.shipment.Shipment.TheVariants.{Span as ShippedSpan, End as ShippedEnd}
 use Rattle.journal_theory.specs.Journal.{Entry, Journal, is_end_of, has_ended, have_ended}
 use Rattle.journal_theory.proofs.ListFacts.{Each, Each-map, Each-reverse}
 use Rattle.journal_theory.proofs.Find.{any_none}
 use Rattle.world_theory.proofs.Steps.{or_both}
 use Rattle.lane_queue.specs.Merges.{of}
 use Rattle.span_weave.specs.Threads.{items_of}
-use Rattle.span_exporter.specs.Work.{is_shipped_end}
+use Rattle.released_spans.specs.Shipping.{is_shipped_end, spans_among}
+use Rattle.released_spans.proofs.Shipping.{among_before_end}
 use Rattle.span_weave.specs.Popped.{AllWasPopped, spans_popped, AllWasPulled}
 use Rattle.span_weave.proofs.Lists.{of_here, of_there}
 
@@ -131,30 +132,16 @@ all_was_popped lanes popped sent held s h finished k l = sym (of_items k popped)
 
 -- ---- the exporter
 
-no_end_of_spans : (k : ℕ) (spans : List Arrival) → list_any (is_shipped_end k) (map (λ a. ShippedSpan a) spans) ≡ false
-no_end_of_spans k [] = refl
-no_end_of_spans k (a ∷ spans) = no_end_of_spans k spans
-
 shards_of_spans : (n : ℕ) (popped : List (ℕ × Shipment)) → AllByRecursion (λ (x : ℕ × Shipment). x.0 < n) popped → AllByRecursion (λ (x : ℕ × Arrival). x.0 < n) (spans_popped popped)
 shards_of_spans n [] h = tt
-shards_of_spans n ((k, ShippedSpan a) ∷ rest) h = (h.0, shards_of_spans n rest h.1)
+shards_of_spans n ((k, ShippedSpan a policy) ∷ rest) h = (h.0, shards_of_spans n rest h.1)
 shards_of_spans n ((k, ShippedEnd s) ∷ rest) h = shards_of_spans n rest h.1
-
--- the spans among shipments
-abbrev spans_among : List Shipment → List Arrival
-spans_among [] = []
-spans_among (ShippedSpan a ∷ rest) = a ∷ spans_among rest
-spans_among (ShippedEnd s ∷ rest) = spans_among rest
-
-spans_of_sent : (spans : List Arrival) (k : ℕ) → spans_among (map (λ a. ShippedSpan a) spans ++ ShippedEnd k ∷ []) ≡ spans
-spans_of_sent [] k = refl
-spans_of_sent (a ∷ spans) k = ap (λ (z : List Arrival). a ∷ z) (spans_of_sent spans k)
 
 of_spans : (k : ℕ) (popped : List (ℕ × Shipment)) → of k (spans_popped popped) ≡ spans_among (of k popped)
 of_spans k [] = refl
-of_spans k ((j, ShippedSpan a) ∷ rest) = go (j == k) (of_spans k rest)
+of_spans k ((j, ShippedSpan a policy) ∷ rest) = go (j == k) (of_spans k rest)
   where
-    go : (b : Bool) → of k (spans_popped rest) ≡ spans_among (of k rest) → cond b (a ∷ of k (spans_popped rest)) (of k (spans_popped rest)) ≡ spans_among (cond b (ShippedSpan a ∷ of k rest) (of k rest))
+    go : (b : Bool) → of k (spans_popped rest) ≡ spans_among (of k rest) → cond b (a ∷ of k (spans_popped rest)) (of k (spans_popped rest)) ≡ spans_among (cond b (ShippedSpan a policy ∷ of k rest) (of k rest))
     go true h = ap (λ (z : List Arrival). a ∷ z) h
     go false h = h
 of_spans k ((j, ShippedEnd s) ∷ rest) = go (j == k) (of_spans k rest)
@@ -169,9 +156,9 @@ below_next n (x ∷ rest) h = (omega (arith, h.0), below_next n rest h.1)
 
 pub all_was_pulled : AllWasPulled
 all_was_pulled zero popped sent held s h ended = (shards_of_spans zero popped s, λ k l. absurd (omega (arith, l)))
-all_was_pulled (suc n) popped sent held s h ended = (shards_of_spans (suc n) popped s, λ k l. of_spans k popped ∙ (ap spans_among (all k l) ∙ spans_of_sent (sent k) k))
+all_was_pulled (suc n) popped sent held s h ended = (shards_of_spans (suc n) popped s, λ k l. of_spans k popped ∙ (ap spans_among (all k l) ∙ among_before_end k (sent k)))
   where
-    all : (k : ℕ) → k < suc n → of k popped ≡ map (λ a. ShippedSpan a) (sent k) ++ ShippedEnd k ∷ []
-    all k l = all_popped (λ j. ShippedEnd j) is_shipped_end (λ j i apart. ne_eqb j i apart) n popped (λ j. map (λ a. ShippedSpan a) (sent j)) held (below_next n popped s)
-        (λ j i. ((λ k. no_end_of_spans k (sent j)), h j (omega (arith, i)))) k (omega (arith, l))
+    all : (k : ℕ) → k < suc n → of k popped ≡ sent k ++ ShippedEnd k ∷ []
+    all k l = all_popped (λ j. ShippedEnd j) is_shipped_end (λ j i apart. ne_eqb j i apart) n popped sent held (below_next n popped s)
+        (λ j i. let own = h j (omega (arith, i)) in (own.0, own.1)) k (omega (arith, l))
         (λ none. never_both (list_any (λ (x : ℕ × Shipment). is_shipped_end k x.1) popped) (ended k l) (any_none (λ (x : ℕ × Shipment). is_shipped_end k x.1) popped none))

@@ -4,11 +4,11 @@ use Rattle.std.specs.List.{AllByRecursion, list_any}
 use Rattle.otlp_types.specs.declared.arrival.Arrival.{Arrival}
 use Rattle.otlp_types.specs.declared.arrival.Item.{Item}
 use Rattle.otlp_types.specs.declared.arrival.Item.TheVariants.{End}
-use Rattle.otlp_types.specs.declared.arrival.Shipment.{Shipment}
-use Rattle.otlp_types.specs.declared.arrival.Shipment.TheVariants.{Span as ShippedSpan, End as ShippedEnd}
+use Rattle.released_spans.specs.declared.shipment.Shipment.{Shipment}
+use Rattle.released_spans.specs.declared.shipment.Shipment.TheVariants.{Span as ShippedSpan, End as ShippedEnd}
 use Rattle.journal_theory.specs.Journal.{Entry, is_end_of, have_ended}
 use Rattle.lane_queue.specs.Merges.{of}
-use Rattle.span_exporter.specs.Work.{is_shipped_end}
+use Rattle.released_spans.specs.Shipping.{is_shipped_end, spans_among}
 use Rattle.span_weave.specs.Threads.{items_of}
 
 -- no sender's End is among the items
@@ -27,15 +27,15 @@ AllWasPopped = (lanes : ℕ) (popped : List (ℕ × Entry)) (sent held : (sender
 -- the spans among the shipments, each with its shard
 abbrev pub spans_popped : List (ℕ × Shipment) → List (ℕ × Arrival)
 spans_popped [] = []
-spans_popped ((shard, ShippedSpan a) ∷ rest) = (shard, a) ∷ spans_popped rest
+spans_popped ((shard, ShippedSpan a policy) ∷ rest) = (shard, a) ∷ spans_popped rest
 spans_popped ((shard, ShippedEnd s) ∷ rest) = spans_popped rest
 
--- The exporter popped of each shard the first part of what that shard sent, which is spans and then its End; the rest
--- is still held. Where it popped every End, it popped all spans.
+-- The exporter popped of each shard the first part of what that shard sent, which is shipments without an End and then
+-- its End; the rest is still held. Where it popped every End, it popped all spans.
 abbrev pub AllWasPulled : Type 0
-AllWasPulled = (shards : ℕ) (popped : List (ℕ × Shipment)) (sent : (shard : ℕ) → List Arrival) (held : (shard : ℕ) → List Shipment)
+AllWasPulled = (shards : ℕ) (popped : List (ℕ × Shipment)) (sent : (shard : ℕ) → List Shipment) (held : (shard : ℕ) → List Shipment)
     → AllByRecursion (λ (x : ℕ × Shipment). x.0 < shards) popped
-    → ((shard : ℕ) → shard < shards → of shard popped ++ held shard ≡ map (λ a. ShippedSpan a) (sent shard) ++ ShippedEnd shard ∷ [])
+    → ((shard : ℕ) → shard < shards → ((end : ℕ) → list_any (is_shipped_end end) (sent shard) ≡ false) × (of shard popped ++ held shard ≡ sent shard ++ ShippedEnd shard ∷ []))
     → ((shard : ℕ) → shard < shards → list_any (λ (x : ℕ × Shipment). is_shipped_end shard x.1) popped ≡ true)
     → AllByRecursion (λ (x : ℕ × Arrival). x.0 < shards) (spans_popped popped)
-    × ((shard : ℕ) → shard < shards → of shard (spans_popped popped) ≡ sent shard)
+    × ((shard : ℕ) → shard < shards → of shard (spans_popped popped) ≡ spans_among (sent shard))

@@ -1,6 +1,6 @@
 -- One item is taken, and then all that is due is decided.
 -- For the clauses of `Turns::turn`.
-use Rattle.std.proofs.Common.{◌≡◌, true, ap, ◌∙◌, refl, sym, subst}
+use Rattle.std.proofs.Common.{◌≡◌, true, None, ap, ◌∙◌, refl, sym, subst}
 use Rattle.shard_core.specs.Taking.{entry}
 use Rattle.journal_theory.specs.Marked.{marks_apply}
 use Rattle.shard_worker.proofs.Nodes.{knows_kept}
@@ -17,7 +17,7 @@ returns-clause-takes g c = λ first before past h.
     let answer = c.take-taken.result in
     let told = c.take-taken.ensures in
     let settled = c.settle_taken-finished.ensures in
-    let at = at_taken g.L.Limiter.asks first c.args.self.now.limiter before c.args.self.now.shard c.take-taken.new.self c.args.self.now.desk.sender.items c.settle_taken-finished.new.desk.sender.items c.args.self.now.desk.tally c.settle_taken-finished.new.desk.tally past h.dealt c.args.item answer h.at
+    let at = at_taken g.L.Limiter.asks first c.args.self.now.limiter before c.args.self.now.shard c.take-taken.new.self c.args.self.now.desk.sender.items c.settle_taken-finished.new.desk.sender.items c.args.self.now.desk.tally c.settle_taken-finished.new.desk.tally past h.dealt None c.args.item answer h.at
     (told.stands past h.dealt h.at.stands) told.settings (told.released past h.dealt h.at.stands) (λ reason. told.dropped past h.dealt reason h.at.stands) (ap (λ s. s.items) settled.takes.0) settled.takes.1 in
     let done = c.decide_due.ensures.done first before (entry c.args.item answer) past 0 at in
     record {
