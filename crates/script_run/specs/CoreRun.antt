@@ -17,7 +17,7 @@ use Rattle.script_run.specs.Writing.{handed_in}
 
 -- the core's configuration, by the settings of each shard and the size of a batch
 abbrev pub core_config : Settings → Sizes → CoreConfig
-core_config s sizes = record { shard = s; batch_size = sizes.batch; manner = takes_all }
+core_config s sizes = record { shard = s; batch_size = sizes.batch; manner = takes_all; names = [] }
 
 -- how many spans of the core have this end
 abbrev pub count_in : Core → Count → ℕ

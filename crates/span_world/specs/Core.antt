@@ -9,7 +9,7 @@ use Rattle.span_world.specs.declared.config.CoreConfig.{CoreConfig as Given}
 
 -- the configuration, with what its policies mean, and lines as the destination; the senders are those of the world
 abbrev pub config_of : Given → CoreConfig
-config_of g = record { shard = record (settings_of g.shard) { senders = 0 }; batch_size = g.batch_size; manner = takes_all }
+config_of g = record { shard = record (settings_of g.shard) { senders = 0 }; batch_size = g.batch_size; manner = takes_all; names = [] }
 
 -- the configuration whose senders are so many lanes and the ticker
 abbrev pub with_senders : ℕ → Given → Given

@@ -29,7 +29,7 @@ errors = one_more (leaf (StatusCode (pos 2 ∷ []))) no_more
 
 -- a wait of 10 milliseconds, batches of one span
 abbrev pub configured : Policies → (num_traces : Option ℕ) → (sampled non_sampled : ℕ) → CoreConfig
-configured policies num_traces sampled non_sampled = record { shard = record (plain_settings policies) { num_traces = num_traces; sampled_cache_size = sampled; non_sampled_cache_size = non_sampled; senders = 0 }; batch_size = 1; manner = takes_all }
+configured policies num_traces sampled non_sampled = record { shard = record (plain_settings policies) { num_traces = num_traces; sampled_cache_size = sampled; non_sampled_cache_size = non_sampled; senders = 0 }; batch_size = 1; manner = takes_all; names = [] }
 
 -- with this greatest size of a trace
 abbrev pub of_size : (maximum : ℕ) → CoreConfig → CoreConfig

@@ -13,12 +13,13 @@ use Rattle.span_sink.specs.Manners.{Manner, refuses}
 
 -- ---- the world
 
--- the settings of each shard, whose senders are those of the world, the greatest number of spans in a batch, and what
--- their destination may do; a cache of size 0 is off
+-- the settings of each shard, whose senders are those of the world, the greatest number of spans in a batch, what their
+-- destination may do, and the names by which policies are recorded in lines, if they are; a cache of size 0 is off
 pub record CoreConfig : Type 0 where
   pub shard : Settings
   pub batch_size : ℕ
   pub manner : Manner
+  pub names : List (List ℕ)
 
 -- a batch may be given up for its destination: it may refuse one, or it is down
 abbrev pub may_give_up : CoreConfig → (down : Bool) → Bool
