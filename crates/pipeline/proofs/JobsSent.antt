@@ -31,11 +31,12 @@ use Rattle.lane_queue.specs.declared.rule.Room.{Ghosts}
 use Rattle.lane_seq.proofs.lane.Lane.TheSendSync as lane_sent
 use Rattle.lane_seq.specs.contracts.lane.Lane as lane
 use Rattle.otlp_types.specs.contracts.arrival.Item as item
-use Rattle.otlp_types.specs.contracts.arrival.Shipment as shipment
+use Rattle.released_spans.specs.contracts.shipment.Shipment as shipment
 use Rattle.shard_core.specs.contracts.shard.Shard as shard
 use Rattle.shared_budget.proofs.budget_seat.BudgetSeat.TheSendSync as seat_sent
 use Rattle.shared_budget.specs.contracts.budget_seat.BudgetSeat as seat
-use Rattle.otlp_types.proofs.Sent.{item_send, shipment_send}
+use Rattle.otlp_types.proofs.Sent.{item_send}
+use Rattle.released_spans.proofs.Sent.{shipment_send}
 use Rattle.shard_core.proofs.Sent.{shard_send}
 use Rattle.pipeline.specs.contracts.lane_job.LaneJob as lane_job
 use Rattle.pipeline.specs.contracts.lane_job.LaneLeft as lane_left

@@ -23,7 +23,7 @@ use Rattle.run_weave.proofs.Rans.{workers_ran}
 use Rattle.pipeline.specs.declared.fault.ServeFault.{ServeFault}
 use Rattle.pipeline.specs.declared.fault.ServeFault.TheVariants.{NoMemory, CounterOverflow, SinkDown}
 use Rattle.pipeline.specs.Outcome.{TellsCounts, TellsSink}
-use Rattle.pipeline.specs.Promise.{core_to, nodes_of, HasWorked, WorkedTells, ServersTell, IsRunTo, IsRunBeyondTo, RunTellsTo, CoreRunTellsTo}
+use Rattle.pipeline.specs.Promise.{core_to, recorded_names, nodes_of, HasWorked, WorkedTells, ServersTell, IsRunTo, IsRunBeyondTo, RunTellsTo, CoreRunTellsTo}
 
 -- each shard keeps a trace, where there are as many traces as shards
 keeps_a_trace : (manner : Manner) (config : Config) → 0 < config.shards → config.shards ≤ config.num_traces → KeepsATrace (core_to manner config)
@@ -48,7 +48,7 @@ worked_tells serves ticks_give config servers ticks old new counts is_full h (Er
 worked_tells serves ticks_give config servers ticks old new counts is_full h (Err (SinkDown report)) down tells = (counts, is_full, h, down, tells)
 
 module _ (manner : Manner) {F T : Type 0} (serves : ℕ → F → LaneAt → F → LaneAt → Bool → Type 0) (receives : ℕ → F → LaneAt → List Arrival → F → LaneAt → List Arrival → Bool → Type 0) (law : IsReceived serves receives) (ticks_give : T → Option ℕ → T → Type 0) (config : Config) (acceptors : List F) (ticks : T)
-    (some : 0 < config.shards) (each : config.shards ≤ config.num_traces) (old new : ExporterState) (size : old.size ≡ config.send_batch_size) (same : old.manner ≡ manner) (up : old.sink.is_down ≡ false) (counts : List (List ℕ)) (is_full : Bool)
+    (some : 0 < config.shards) (each : config.shards ≤ config.num_traces) (old new : ExporterState) (size : old.size ≡ config.send_batch_size) (same : old.manner ≡ manner) (named : old.names ≡ recorded_names config) (up : old.sink.is_down ≡ false) (counts : List (List ℕ)) (is_full : Bool)
     (h : HasWorked serves ticks_give config acceptors ticks old new counts is_full) where
   -- a run, of which this is so
   abbrev RanSo : (List F → T → LineSinkState → LineSinkState → Type 0)
@@ -63,7 +63,7 @@ module _ (manner : Manner) {F T : Type 0} (serves : ℕ → F → LaneAt → F �
       (subst (λ (e : ExporterState). RanSo acceptors ticks e.sink h.left.exporter.exporter.sink) h.exporter_is
       (subst (λ (t : T). RanSo acceptors t h.given.exporter.sink h.left.exporter.exporter.sink) h.ticks_are
       (subst (λ (f : List F). RanSo f h.given.ticks h.given.exporter.sink h.left.exporter.exporter.sink) h.acceptors_are
-      (workers_ran serves receives law ticks_give (core_to manner config) (nodes_of config) config.keeps_doubles config.queue_capacity config.export_capacity config.lanes config.shards h.given h.left (ap (λ (e : ExporterState). e.size) h.exporter_is ∙ size) (ap (λ (e : ExporterState). e.manner) h.exporter_is ∙ same) h.worked))))
+      (workers_ran serves receives law ticks_give (core_to manner config) (nodes_of config) config.keeps_doubles config.queue_capacity config.export_capacity config.lanes config.shards h.given h.left (ap (λ (e : ExporterState). e.size) h.exporter_is ∙ size) (ap (λ (e : ExporterState). e.manner) h.exporter_is ∙ same) (ap (λ (e : ExporterState). e.names) h.exporter_is ∙ named) h.worked))))
 
   ran_holds : HoldsOfThreads (core_to manner config) config.lanes config.shards ran_so.0.threads ran_so.0.end
   ran_holds = woven_headline (core_to manner config) config.lanes config.shards ran_so.0.threads ran_so.0.end (keeps_a_trace manner config some each) some ran_so.0.ran.meets
@@ -128,7 +128,7 @@ module _ (manner : Manner) {F T : Type 0} (serves : ℕ → F → LaneAt → F �
       up = ap (λ (s : LineSinkState). s.is_down) t.first
 
       by : (a : Result Report ServeFault) → WorkedTells serves ticks_give config acceptors ticks t.old t.new a → RunTellsTo manner receives ticks_give config acceptors ticks t.old.sink.taken t.old.sink.failures t.new.sink.taken t.new.sink.failures a
-      by (Ok report) w = told manner serves receives law ticks_give config acceptors ticks some each t.old t.new t.size t.manner_is up w.0 w.1 w.2 (Ok report) w.3 w.4
+      by (Ok report) w = told manner serves receives law ticks_give config acceptors ticks some each t.old t.new t.size t.manner_is t.names_are up w.0 w.1 w.2 (Ok report) w.3 w.4
       by (Err NoMemory) w = tt
-      by (Err CounterOverflow) w = told manner serves receives law ticks_give config acceptors ticks some each t.old t.new t.size t.manner_is up w.0 w.1 w.2 (Err CounterOverflow) w.3 w.4
-      by (Err (SinkDown report)) w = told manner serves receives law ticks_give config acceptors ticks some each t.old t.new t.size t.manner_is up w.0 w.1 w.2 (Err (SinkDown report)) w.3 w.4
+      by (Err CounterOverflow) w = told manner serves receives law ticks_give config acceptors ticks some each t.old t.new t.size t.manner_is t.names_are up w.0 w.1 w.2 (Err CounterOverflow) w.3 w.4
+      by (Err (SinkDown report)) w = told manner serves receives law ticks_give config acceptors ticks some each t.old t.new t.size t.manner_is t.names_are up w.0 w.1 w.2 (Err (SinkDown report)) w.3 w.4

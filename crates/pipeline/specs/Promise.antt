@@ -1,5 +1,5 @@
 -- What a run of the pipeline promises: what its threads did is a run of the core.
-use Rattle.std.specs.Prelude.{◌≡◌, ℕ, ◌+◌, ◌<◌, Bool, true, false, List, slice_index, Option, Result, Ok, Err}
+use Rattle.std.specs.Prelude.{◌≡◌, ℕ, ◌+◌, ◌<◌, Bool, true, false, if◌then◌else◌, List, [], map, slice_index, Option, Result, Ok, Err}
 use Rattle.span_ids.specs.declared.outcome.Reason.TheVariants.{QueueFull}
 use Rattle.drop_ledger.specs.declared.count.Count.TheVariants.{Dropped}
 use Rattle.drop_ledger.specs.Places.{place_of}
@@ -26,9 +26,13 @@ use Rattle.pipeline.specs.declared.fault.ServeFault.{ServeFault}
 use Rattle.pipeline.specs.declared.fault.ServeFault.TheVariants.{NoMemory, CounterOverflow, SinkDown}
 use Rattle.pipeline.specs.Outcome.{TellsCounts, TellsSink}
 
+-- the names by which policies are recorded in lines: those of the policies, in order, where the configuration says so
+abbrev pub recorded_names : Config → List (List ℕ)
+recorded_names config = if config.record_policy then map (λ p. p.name) config.policies else []
+
 -- the core's configuration, with a destination of this manner: each shard has its share of the traces and of the caches
 abbrev pub core_to : Manner → Config → CoreConfig
-core_to manner config = record { shard = settings_by config; batch_size = config.send_batch_size; manner = manner }
+core_to manner config = record { shard = settings_by config; batch_size = config.send_batch_size; manner = manner; names = recorded_names config }
 
 -- the same where lines are the destination
 abbrev pub core_of : Config → CoreConfig
@@ -84,6 +88,7 @@ module _ {F T : Type 0} (serves : ℕ → F → LaneAt → F → LaneAt → Bool
     pub new : ExporterState
     pub size : old.size ≡ config.send_batch_size
     pub manner_is : old.manner ≡ manner
+    pub names_are : old.names ≡ recorded_names config
     pub first : old.sink ≡ up_state taken failures
     pub taken_is : new.sink.taken ≡ taken_after
     pub failures_are : new.sink.failures ≡ failures_after

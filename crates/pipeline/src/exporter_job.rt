@@ -8,7 +8,7 @@ use crate::telling::Told;
 use drop_ledger::{Report, Tally};
 use job_threads::Job;
 use lane_queue::{Receiver, Room};
-use otlp_types::Shipment;
+use released_spans::Shipment;
 use span_exporter::Exporter;
 use span_sink::Destination;
 use std::sync::Wait;

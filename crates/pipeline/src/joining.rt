@@ -6,7 +6,8 @@ ghost use Rattle.shared_budget.specs.Budget.{AreOfOneBudget, HaveOneHistoryEach}
 
 use crate::shards::ShardEnds;
 use lane_queue::{Receiver, Room, Sender, reunite, reunite_grid};
-use otlp_types::{Item, Shipment};
+use otlp_types::Item;
+use released_spans::Shipment;
 use shared_budget::SharedBudget;
 use std::sync::Wait;
 

@@ -5,7 +5,7 @@ ghost use Rattle.lane_worker.specs.Serving.{connection};
 ghost use Rattle.run_weave.specs.Received.{receives_one_by_one, receives_by_turns};
 ghost use Rattle.pipeline.specs.Made.{CanRun};
 ghost use Rattle.pipeline.specs.Outcome.{SinkAnswers, SinkWent, TellsCounts, TellsSink, has_begun};
-ghost use Rattle.pipeline.specs.Promise.{HasWorked, WorkedTells, ServersTell, RunTells, RunTellsTo};
+ghost use Rattle.pipeline.specs.Promise.{HasWorked, WorkedTells, ServersTell, RunTells, RunTellsTo, recorded_names};
 ghost use Rattle.config_shards.specs.Shards.{CanBegin};
 ghost use Rattle.tsc_config.specs.declared.config.Config.{Config};
 
@@ -23,9 +23,11 @@ use job_threads::{Team, run_team};
 use lane_queue::Room;
 use lane_turns::Driver;
 use lane_worker::{Acceptor, ByTurns, LaneServer, OneByOne, Ticks};
+use otlp_types::{Text, TryClone};
 use shared_budget::asked_seats_may_be_compared;
 use span_exporter::{Exporter, sink_takes_lines};
 use span_sink::{Destination, LineSink, Sink, takes_handed_lines};
+use std::alloc::{AllocError, Global};
 use std::marker::Brand;
 use std::time::Clock;
 use thread_watch::{Barrier, Watcher};
@@ -172,12 +174,7 @@ fn run_servers<
     ensures begun { is_none result.2 ≡ has_begun result.1 }
     ensures back { IfSome result.2 (λ back. (back.0.items ≡ servers.items) × (back.1 ≡ ticks)) }
 {
-    let exporter = match Exporter::new(
-        context.alloc,
-        config.send_batch_size,
-        config.shards,
-        destination,
-    ) {
+    let exporter = match exporter_of(context.alloc, &config, destination) {
         Ok(exporter) => exporter,
         Err((destination, _)) => {
             return (
@@ -199,6 +196,44 @@ fn run_servers<
         Runtime,
     >(context, &config, servers, ticks, exporter);
     (exporter.end(), answer, back)
+}
+
+/// An exporter with nothing in it, which records policies where the configuration says so. Where memory is refused the
+/// destination comes back.
+fn exporter_of<Output: Destination>(
+    alloc: Global,
+    config: &Config,
+    destination: Output,
+) -> Result<Exporter<Output>, (Output, AllocError)>
+    requires has_room { 0 < config.now.send_batch_size }
+    requires has_shards { 0 < config.now.shards }
+    ensures made { IfOk result (λ e. e ≡ record { batch = []; policies = []; names = recorded_names config.now; size = config.now.send_batch_size;
+        ends = replicate config.now.shards false; manner = Output.manner; sink = Output.state destination }) }
+    ensures back { IfErr result (λ pair. pair.0 ≡ destination) }
+{
+    match recorded_names(alloc, config) {
+        Ok(names) => Exporter::new(
+            alloc,
+            config.send_batch_size,
+            config.shards,
+            names,
+            destination,
+        ),
+        Err(error) => Err((destination, error)),
+    }
+}
+
+/// The names by which policies are recorded: those of the policies, in order, where the configuration says so.
+fn recorded_names(alloc: Global, config: &Config) -> Result<Vec<Text>, AllocError>
+    ensures { IfOk result (λ names. names.items ≡ recorded_names config.now) }
+{
+    let mut names = Vec::new(alloc);
+    if config.record_policy {
+        for policy in config.policies.as_slice() {
+            names.push(policy.name.try_clone(alloc)?)?;
+        }
+    }
+    Ok(names)
 }
 
 /// Runs the threads, and answers the report. The key by which trace ids are hashed is taken first: where the system has

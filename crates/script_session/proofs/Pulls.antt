@@ -79,11 +79,11 @@ adds-sent r n one adds = Adds-same r n _ _ (λ k. alone _ _ _ (none-dropped k) (
     alone z a f e d = omega arith
 
 -- the span filled the batch, which was sent
-pub pulled-full : (old mid new : ExporterState) (r n : Option (List ℕ)) (a : Arrival) → length old.batch < old.size → mid ≡ with_shipment (Span a) old → AddedFull ≡ answer_to (Span a) old mid
+pub pulled-full : (old mid new : ExporterState) (r n : Option (List ℕ)) (a : Arrival) (policy : Option ℕ) → length old.batch < old.size → mid ≡ with_shipment (Span a policy) old → AddedFull ≡ answer_to (Span a policy) old mid
     → new.batch ≡ [] → new.size ≡ mid.size → new.ends ≡ mid.ends
     → ((flushed : Flushed) × Sends mid.sink mid.batch flushed new.sink × Adds r (λ count. counted_for count flushed) n)
     → PullsAll (old, r) (a ∷ []) (λ reason. 0) (new, n)
-pulled-full old mid new r n a room is full emptied size ends sent =
+pulled-full old mid new r n a policy room is full emptied size ends sent =
     let full' : length mid.batch ≡ mid.size = is_full (length mid.batch) mid.size full in
     let size_is = ap (λ (e : ExporterState). e.size) is in
     let sink_is = ap (λ (e : ExporterState). e.sink) is in
@@ -100,8 +100,8 @@ pulled-full old mid new r n a room is full emptied size ends sent =
     }
 
 -- the batch is open still
-pub pulled-part : (old new : ExporterState) (r : Option (List ℕ)) (a : Arrival) → new ≡ with_shipment (Span a) old → PullsAll (old, r) (a ∷ []) (λ reason. 0) (new, r)
-pulled-part old new r a is = record {
+pub pulled-part : (old new : ExporterState) (r : Option (List ℕ)) (a : Arrival) (policy : Option ℕ) → new ≡ with_shipment (Span a policy) old → PullsAll (old, r) (a ∷ []) (λ reason. 0) (new, r)
+pulled-part old new r a policy is = record {
   batches = [];
   full = tt;
   are_all = ap (λ (e : ExporterState). e.batch) is;

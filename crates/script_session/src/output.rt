@@ -8,7 +8,8 @@ ghost use Rattle.script_session.specs.Submitting.{received_by};
 
 use drop_ledger::{Count, Report};
 use lane_seq::{Reply, count_reply};
-use otlp_types::{Arrival, Shipment};
+use otlp_types::Arrival;
+use released_spans::Shipment;
 use shard_core::Desk;
 use span_exporter::{Exporter, Flushed, Pulled};
 use span_ids::Reason;
@@ -24,7 +25,7 @@ pub struct Output<S: Sink> {
 }
 
 impl<S: Sink> Model for Output<S> {
-    ghost use Rattle.std.specs.Prelude.{◌<◌, length};
+    ghost use Rattle.std.specs.Prelude.{◌≡◌, ◌<◌, [], length};
     ghost use Rattle.std.specs.Coded.{codes};
     ghost use Rattle.otlp_types.specs.contracts.value.AnyValue as any_value;
     ghost use Rattle.script_session.specs.Pulling.{Export};
@@ -35,13 +36,15 @@ impl<S: Sink> Model for Output<S> {
 
     ghost view = { λ o. (o.exporter, o.report) };
 
-    ghost invariant = { λ o. length o.exporter.batch < o.exporter.size };
+    // A replay records no policies in its lines.
+    ghost invariant = { λ o. (length o.exporter.batch < o.exporter.size) × (o.exporter.names ≡ []) };
 }
 
 impl<S: Sink> Output<S> {
     /// Nothing is counted yet.
     pub fn new(exporter: Exporter<LineSink<S>>) -> Self
-        requires { length exporter.batch < exporter.size }
+        requires room { length exporter.batch < exporter.size }
+        requires unnamed { exporter.names ≡ [] }
         ensures { result ≡ (exporter, Some (replicate 9 0)) }
     {
         Output {
@@ -111,7 +114,7 @@ impl<S: Sink> Output<S> {
         ensures pulls { PullsAll self.old (arrival ∷ []) (λ reason. 0) self.new }
         ensures goes_on { GoesOn self.old self.new }
     {
-        if let Pulled::AddedFull = self.exporter.pull(Shipment::Span(arrival)) {
+        if let Pulled::AddedFull = self.exporter.pull(Shipment::Span(arrival, None)) {
             send(&mut self.exporter, &mut self.report);
         }
     }
@@ -175,7 +178,9 @@ fn count_replied(report: &mut Option<Report>, reply: &Reply)
 
 /// Sends the batch, and counts what became of its spans.
 fn send<S: Sink>(exporter: &mut Exporter<LineSink<S>>, report: &mut Option<Report>)
+    requires unnamed { exporter.old.names ≡ [] }
     ensures emptied { exporter.new.batch ≡ [] }
+    ensures unnamed { exporter.new.names ≡ [] }
     ensures size { exporter.new.size ≡ exporter.old.size }
     ensures ends { exporter.new.ends ≡ exporter.old.ends }
     ensures sent { (flushed : Flushed) × Sends exporter.old.sink exporter.old.batch flushed exporter.new.sink

@@ -90,7 +90,7 @@ pub(crate) fn session_of<S: Sink, L: Listener + Drop>(
         return Err(lines.end());
     };
     // Of one shard: a session pulls no shard's `End`, so their number is no matter.
-    let exporter = match Exporter::new(alloc, config.send_batch_size, 1, lines) {
+    let exporter = match Exporter::new(alloc, config.send_batch_size, 1, Vec::new(alloc), lines) {
         Ok(exporter) => exporter,
         Err((lines, _)) => return Err(lines.end()),
     };

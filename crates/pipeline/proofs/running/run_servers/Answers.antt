@@ -3,6 +3,7 @@ use Rattle.std.proofs.lemmas.List.{length-replicate}
 use Rattle.std.specs.List.{list_any}
 use Rattle.span_exporter.specs.Exports.{ExporterState}
 use Rattle.span_sink.specs.LineSinks.{up_state}
+use Rattle.pipeline.specs.Promise.{recorded_names}
 use Rattle.pipeline.proofs.SinkWent.{none_ended}
 use Rattle.pipeline.proofs.Told.{up_as}
 use Rattle.pipeline.proofs.running.run_servers.Goals as goal
@@ -27,6 +28,7 @@ returns-clause-ran g c = record {
   new = c.run_in-exporter.result.0;
   size = ap (λ e. e.size) c.in-Ok.ensures.made;
   manner_is = ap (λ e. e.manner) c.in-Ok.ensures.made;
+  names_are = ap (λ e. e.names) c.in-Ok.ensures.made;
   first = ap (λ e. e.sink) c.in-Ok.ensures.made ∙ up_as (g.Output.Destination.state c.args.destination) c.requires.up;
   taken_is = ap (λ s. s.taken) (sym c.end.ensures);
   failures_are = ap (λ s. s.failures) (sym c.end.ensures);
@@ -36,11 +38,12 @@ returns-clause-ran g c = record {
 pub returns-in-Err-clause-ran : goal.returns-in-Err-clause-ran
 returns-in-Err-clause-ran g c =
     let state = g.Output.Destination.state c.args.destination in
-    let none : ExporterState = record { batch = []; size = c.args.config.send_batch_size; ends = []; manner = g.Output.Destination.manner; sink = up_state state.taken state.failures } in record {
+    let none : ExporterState = record { batch = []; policies = []; names = recorded_names c.args.config; size = c.args.config.send_batch_size; ends = []; manner = g.Output.Destination.manner; sink = up_state state.taken state.failures } in record {
       old = none;
       new = none;
       size = refl;
       manner_is = refl;
+      names_are = refl;
       first = refl;
       taken_is = sym (ap (λ d. (g.Output.Destination.state d).taken) c.in-Err.ensures.back);
       failures_are = sym (ap (λ d. (g.Output.Destination.state d).failures) c.in-Err.ensures.back);
