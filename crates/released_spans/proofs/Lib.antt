@@ -1,3 +1,4 @@
 pub mod Noted
+pub mod Rows
 pub mod Sent
 pub mod Shipping
