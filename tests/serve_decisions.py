@@ -73,6 +73,46 @@ def each_decided(start):
         want("nothing more", len(read(path)), 200)
 
 
+def policies_on_spans(start):
+    """With `record_policy` each span that is kept has its policy's name on its scope, in the place of what came under that key; nothing else changes."""
+    rng = random.Random(72)
+    scopes = [{"name": "plain"}, {"name": "full", "version": "1", "attributes": [{"key": "team", "value": {"stringValue": "a"}}], "droppedAttributesCount": 3}]
+    forged = {"name": "forged", "attributes": [{"key": "tailsampling.policy", "value": {"intValue": "7"}}, {"key": "z", "value": {"boolValue": True}}]}
+    scopes.append(forged)
+    kept = {}
+    for settings in ("record_policy = true\n", "record_policy = false\n", ""):
+        collector = start(settings + "shards = 2\nlanes = 2\ndecision_wait_ms = 300\ntick_ms = 20\nsend_batch_size = 7\n" + THREE)
+        traces = {number: (rng.random() < 0.4, rng.random() < 0.4, rng.random() < 0.3, rng.randrange(1, 5)) for number in range(1, 101)}
+        for number, shape in traces.items():
+            spans = trace(number, *shape)
+            groups = [{"scope": scopes[number % 3], "spans": spans[:1]}, {"scope": scopes[(number + 1) % 3], "spans": spans[1:]}]
+            want("the answer", collector.ask(post(json.dumps({"resourceSpans": [{"scopeSpans": groups}]}).encode()))[::2], (200, "{}"))
+        lines, _numbers = collector.close()
+        groups = [group for line in lines for resource in json.loads(line)["resourceSpans"] for group in resource["scopeSpans"]]
+        found = {span["spanId"]: group["scope"] for group in groups for span in group["spans"]}
+        wanted = {}
+        for number, shape in traces.items():
+            verdict, policy, _said = expected(*shape[:3])
+            for place, span in enumerate(trace(number, *shape) if verdict == "sampled" else []):
+                wanted[span["spanId"]] = scope_of(scopes[(number + min(place, 1)) % 3], policy if "true" in settings else None)
+        want("the scopes of what was kept", found, wanted)
+        kept[settings] = len(wanted)
+    want("some were kept", all(20 < it for it in kept.values()), True)
+
+
+def scope_of(scope, policy):
+    """A scope as it is printed, with the attribute that names the policy, if there is one: where its key stands, or else last."""
+    attribute = {"key": "tailsampling.policy", "value": {"stringValue": policy}}
+    attributes = scope.get("attributes", [])
+    if policy is None:
+        made = attributes
+    elif any(it["key"] == attribute["key"] for it in attributes):
+        made = [attribute if it["key"] == attribute["key"] else it for it in attributes]
+    else:
+        made = [*attributes, attribute]
+    return {**scope, "attributes": made} if made else scope
+
+
 def each_cause(start):
     """A line says why a trace was decided then: by its wait, its root's, its size, or the close; and one that was evicted has its own."""
     with tempfile.TemporaryDirectory() as folder:
@@ -474,5 +514,5 @@ def questions_end(start):
     collector.end()
 
 
-CHECKS = [each_decided, each_cause, late_spans, rotated, all_at_the_close, decisions_cannot_be_written, decisions_of_a_full_disk]
+CHECKS = [each_decided, policies_on_spans, each_cause, late_spans, rotated, all_at_the_close, decisions_cannot_be_written, decisions_of_a_full_disk]
 CHECKS += [last_decisions, most_decisions, left_and_decided, odd_looks, told_for_a_minute, held_traces, held_by_several, questions_end]

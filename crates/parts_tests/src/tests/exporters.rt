@@ -55,7 +55,7 @@ fn exporter_of(
         fails: true,
         calls: 0,
     });
-    match Exporter::new(alloc, size, 1, LineSink::new(sink)) {
+    match Exporter::new(alloc, size, 1, Vec::new(alloc), LineSink::new(sink)) {
         Ok(exporter) => Ok(exporter),
         Err(_) => Err(AllocError),
     }
@@ -75,7 +75,7 @@ fn pulled(exporter: &mut Exporter<LineSink<FailingSink>>, rec: Record) -> Flushe
         moment: 0,
         rec,
     };
-    match exporter.pull(Shipment::Span(arrival)) {
+    match exporter.pull(Shipment::Span(arrival, None)) {
         Pulled::AddedFull => exporter.flush(),
         _ => Flushed::Empty,
     }
