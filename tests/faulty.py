@@ -135,6 +135,8 @@ ROWS = [
         "policies: an array is wanted (fault 4)",
         EMPTY,
     ]),
+    ("names of policies on spans, by another type and near names", f"record_policy = \"true\"\nrecordpolicy = true\nrecord_policies = true\n{POLICIES}", [
+        "record_policies: no such key (fault 2)", "recordpolicy: no such key; `record_policy` is (fault 2)", "record_policy: true or false is wanted (fault 4)"]),
     ("bodies in protobuf, by another type and a near name", f"accept_protobuf = \"true\"\naccept_protobuff = true\n{POLICIES}", [
         "accept_protobuff: no such key; `accept_protobuf` is (fault 2)", "accept_protobuf: true or false is wanted (fault 4)"]),
     ("texts of two", f'queue_full = "wait"\ndouble_values = "stop"\n{POLICIES}', ['queue_full: "wait" is none of partial, retry (fault 5)',

@@ -146,10 +146,11 @@ choices_of_no_type : map (each_setting_fault top_settings) (member (codes "queue
     ≡ Some WrongType ∷ Some WrongType ∷ Some WrongType ∷ Some WrongType ∷ Some WrongType ∷ []
 choices_of_no_type = refl
 
--- bodies packed by gzip and bodies in protobuf: each taken or not, and nothing else
+-- bodies packed by gzip, bodies in protobuf, and names of policies on spans: each or not, and nothing else
 switches : map (each_setting_fault top_settings) (member (codes "accept_gzip") (boolean true) no_members ∷ member (codes "accept_protobuf") (boolean true) no_members
-    ∷ member (codes "accept_protobuf") (boolean false) no_members ∷ member (codes "accept_protobuf") (integer (pos 1)) no_members ∷ one_text (codes "accept_protobuf") (codes "true") ∷ [])
-    ≡ None ∷ None ∷ None ∷ Some WrongType ∷ Some WrongType ∷ []
+    ∷ member (codes "accept_protobuf") (boolean false) no_members ∷ member (codes "accept_protobuf") (integer (pos 1)) no_members ∷ one_text (codes "accept_protobuf") (codes "true")
+    ∷ member (codes "record_policy") (boolean true) no_members ∷ member (codes "record_policy") (boolean false) no_members ∷ member (codes "record_policy") (integer (pos 1)) no_members ∷ one_text (codes "record_policy") (codes "true") ∷ [])
+    ≡ None ∷ None ∷ None ∷ Some WrongType ∷ Some WrongType ∷ None ∷ None ∷ Some WrongType ∷ Some WrongType ∷ []
 switches = refl
 
 -- an address, and how lines are sent there: one of two texts, or nothing; another text, an empty one, one of another
@@ -169,7 +170,7 @@ encoding_keys : is_key table_is.Export (codes "encoding") ∷ is_key table_is.Co
 unfolding is_key
 encoding_keys = refl
 
-choice_keys : map (is_key table_is.Config) (codes "queue_full" ∷ codes "output_fault" ∷ codes "double_values" ∷ codes "close_at_end_of_input" ∷ codes "queue" ∷ []) ≡ true ∷ true ∷ true ∷ true ∷ false ∷ []
+choice_keys : map (is_key table_is.Config) (codes "queue_full" ∷ codes "output_fault" ∷ codes "double_values" ∷ codes "close_at_end_of_input" ∷ codes "record_policy" ∷ codes "queue" ∷ []) ≡ true ∷ true ∷ true ∷ true ∷ true ∷ false ∷ []
 unfolding is_key
 choice_keys = refl
 

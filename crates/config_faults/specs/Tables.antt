@@ -140,6 +140,7 @@ other_settings =
     ∷ number_setting number_is.OutputKeep
     ∷ number_setting number_is.DecisionsMax
     ∷ number_setting number_is.RecordMax
+    ∷ switch (codes "record_policy")
     ∷ text_setting text_is.Listen
     ∷ text_setting text_is.Metrics
     ∷ text_setting text_is.Output

@@ -131,7 +131,7 @@ impl TextKey {
 }
 
 /// The settings of a configuration that are no tables.
-pub fn top_settings() -> [Setting; 32]
+pub fn top_settings() -> [Setting; 33]
     ensures { map spec.setting_of result ≡ spec.top_settings }
 {
     [
@@ -153,6 +153,7 @@ pub fn top_settings() -> [Setting; 32]
         number_setting(NumberKey::OutputKeep),
         number_setting(NumberKey::DecisionsMax),
         number_setting(NumberKey::RecordMax),
+        Setting::Default("record_policy", ValueKind::Truth, DefaultValue::Off),
         text_setting(TextKey::Listen),
         text_setting(TextKey::Metrics),
         text_setting(TextKey::Output),

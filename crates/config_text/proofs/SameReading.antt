@@ -310,6 +310,7 @@ configs_same m =
       number_of number_is.DecisionsMax m refl refl refl refl refl,
       plain (List ℕ) (address_of []) (codes "record") (string []) m refl refl refl refl refl,
       number_of number_is.RecordMax m refl refl refl refl refl,
+      plain Bool truth_of (codes "record_policy") (boolean false) m refl refl refl refl refl,
       plain OutputFault output_fault_of (codes "output_fault") (string (codes "discard")) m refl refl refl refl refl,
       plain LogForm log_form_of (codes "log") (string (codes "text")) m refl refl refl refl refl,
       plain Bool truth_of (codes "accept_gzip") (boolean false) m refl refl refl refl refl,

@@ -31,11 +31,12 @@ nothing : with_defaults no_members
     (member (codes "queue_full") (string (codes "partial"))
     (member (codes "record") (string [])
     (member (codes "record_max_mib") (integer (pos 0))
+    (member (codes "record_policy") (boolean false)
     (member (codes "root_wait_ms") (integer (pos 0))
     (member (codes "sample_on_first_match") (boolean false)
     (member (codes "send_batch_size") (integer (pos 512))
     (member (codes "shards") (integer (pos 1))
-    (member (codes "tick_ms") (integer (pos 1000)) no_members))))))))))))))))))))))))))))))
+    (member (codes "tick_ms") (integer (pos 1000)) no_members)))))))))))))))))))))))))))))))
 unfolding with_defaults
 nothing = refl
 
@@ -93,11 +94,12 @@ served_whole : with_defaults served ≡
     (member (codes "queue_full") (string (codes "retry"))
     (member (codes "record") (string [])
     (member (codes "record_max_mib") (integer (pos 0))
+    (member (codes "record_policy") (boolean false)
     (member (codes "root_wait_ms") (integer (pos 2000))
     (member (codes "sample_on_first_match") (boolean false)
     (member (codes "send_batch_size") (integer (pos 512))
     (member (codes "shards") (integer (pos 4))
-    (member (codes "tick_ms") (integer (pos 500)) no_members))))))))))))))))))))))))))))))))
+    (member (codes "tick_ms") (integer (pos 500)) no_members)))))))))))))))))))))))))))))))))
 unfolding with_defaults served
 served_whole = refl
 

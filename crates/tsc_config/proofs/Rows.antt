@@ -114,18 +114,20 @@ takes_protobuf : map (λ members. (config_of members).accept_gzip ∷ (config_of
     ≡ (false ∷ false ∷ []) ∷ (false ∷ true ∷ []) ∷ (false ∷ false ∷ []) ∷ (true ∷ false ∷ []) ∷ []
 takes_protobuf = refl
 
--- what a key does that takes one of two texts, and the one of a truth value: by default, by each of its values
+-- what a key does that takes one of two texts, and two of a truth value: by default, by each of its values
 abbrev choices_of : Config → List Bool
-choices_of c = c.waits_for_room ∷ c.keeps_doubles ∷ c.close_at_end_of_input ∷ []
+choices_of c = c.waits_for_room ∷ c.keeps_doubles ∷ c.close_at_end_of_input ∷ c.record_policy ∷ []
 
 chosen : map (λ members. choices_of (config_of members)) (no_members
     ∷ one_text (codes "queue_full") (codes "partial") ∷ one_text (codes "queue_full") (codes "retry")
     ∷ one_text (codes "double_values") (codes "discard") ∷ one_text (codes "double_values") (codes "keep")
-    ∷ member (codes "close_at_end_of_input") (boolean false) no_members ∷ member (codes "close_at_end_of_input") (boolean true) no_members ∷ [])
-    ≡ (false ∷ false ∷ false ∷ [])
-    ∷ (false ∷ false ∷ false ∷ []) ∷ (true ∷ false ∷ false ∷ [])
-    ∷ (false ∷ false ∷ false ∷ []) ∷ (false ∷ true ∷ false ∷ [])
-    ∷ (false ∷ false ∷ false ∷ []) ∷ (false ∷ false ∷ true ∷ []) ∷ []
+    ∷ member (codes "close_at_end_of_input") (boolean false) no_members ∷ member (codes "close_at_end_of_input") (boolean true) no_members
+    ∷ member (codes "record_policy") (boolean false) no_members ∷ member (codes "record_policy") (boolean true) no_members ∷ [])
+    ≡ (false ∷ false ∷ false ∷ false ∷ [])
+    ∷ (false ∷ false ∷ false ∷ false ∷ []) ∷ (true ∷ false ∷ false ∷ false ∷ [])
+    ∷ (false ∷ false ∷ false ∷ false ∷ []) ∷ (false ∷ true ∷ false ∷ false ∷ [])
+    ∷ (false ∷ false ∷ false ∷ false ∷ []) ∷ (false ∷ false ∷ true ∷ false ∷ [])
+    ∷ (false ∷ false ∷ false ∷ false ∷ []) ∷ (false ∷ false ∷ false ∷ true ∷ []) ∷ []
 chosen = refl
 
 -- each key gives its own number

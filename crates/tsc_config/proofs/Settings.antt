@@ -298,6 +298,7 @@ whole members e =
       decisions_max_mib = number_in top_settings members number_is.DecisionsMax refl f;
       request_record = text (codes "record") [] members (get_member (codes "record") members) refl (free top_settings members (codes "record") _ refl f);
       record_max_mib = number_in top_settings members number_is.RecordMax refl f;
+      record_policy = switched members (codes "record_policy") refl f;
       output_fault = output_fault members (get_member (codes "output_fault") members) refl (free top_settings members (codes "output_fault") (output_fault_setting text_is.OutputFault) refl f);
       keeps_doubles = chosen members choice_is.DoubleValues refl f;
       close_at_end_of_input = switched members (codes "close_at_end_of_input") refl f;

@@ -129,6 +129,7 @@ pub record HasSettings (members : Members) (config : Config) : Type 0 where
   pub decisions_max_mib : IsNumberAt members (codes "decisions_max_mib") 0 0 1048576 config.decisions_max_mib
   pub request_record : IsTextAt members (codes "record") [] config.request_record
   pub record_max_mib : IsNumberAt members (codes "record_max_mib") 0 0 1048576 config.record_max_mib
+  pub record_policy : IsTruthAt members (codes "record_policy") config.record_policy
   pub output_fault : IsOutputFaultAt members config.output_fault
   pub keeps_doubles : IsChoiceAt members (codes "double_values") (codes "discard") (codes "keep") config.keeps_doubles
   pub close_at_end_of_input : IsTruthAt members (codes "close_at_end_of_input") config.close_at_end_of_input

@@ -456,6 +456,7 @@ config_of members = record {
   decisions_max_mib = number_by (number_row number_is.DecisionsMax) members;
   request_record = address_of [] (get_member (codes "record") members);
   record_max_mib = number_by (number_row number_is.RecordMax) members;
+  record_policy = truth_of (get_member (codes "record_policy") members);
   log = log_form_of (get_member (codes "log") members);
   accept_gzip = truth_of (get_member (codes "accept_gzip") members);
   accept_protobuf = truth_of (get_member (codes "accept_protobuf") members);

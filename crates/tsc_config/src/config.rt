@@ -97,6 +97,9 @@ pub struct Config {
     /// Mebibytes of such lines from which on that file is put aside and another one is begun, from 0 to 1048576, where 0
     /// is never (this project's option `record_max_mib`).
     pub record_max_mib: u64,
+    /// Whether the scopes of kept spans get the attribute `tailsampling.policy`, the name of the policy that decided
+    /// (tailsamplingprocessor README, `recordpolicy`; this project's option `record_policy`).
+    pub record_policy: bool,
     /// What is said of a run, beside its lines (this project's option `log`).
     pub log: LogForm,
     /// Whether bodies that are packed by gzip are taken (RFC 9110, section 8.4.1.3; this project's option
@@ -159,8 +162,8 @@ impl Config {
 /// else `127.0.0.1:4318`; `admin` and `metrics`, texts, else nothing; `output`, a text, else nothing; `output_max_mib`,
 /// from 0 to 1048576, else 0; `output_keep`, from 1 to 1000, else 7; `decisions`, a text, else nothing;
 /// `decisions_max_mib`, from 0 to 1048576, else 0; `record`, a text, else nothing; `record_max_mib`, from 0 to
-/// 1048576, else 0; `accept_gzip`, `accept_protobuf` and
-/// `close_at_end_of_input`, true or false, else false; `queue_full`, `partial` or `retry`, else `partial`; `output_fault`, `discard`, `stop` or `retry`,
+/// 1048576, else 0; `record_policy`, `accept_gzip`, `accept_protobuf` and `close_at_end_of_input`, true or false, else
+/// false; `queue_full`, `partial` or `retry`, else `partial`; `output_fault`, `discard`, `stop` or `retry`,
 /// else `discard`; and `double_values`, `discard` or `keep`, else `discard`; and `export`, a table with a required
 /// `endpoint` ([`Export`] has its keys), else nothing is sent. Of a `string_attribute` policy `values` are regular
 /// expressions where `enabled_regex_matching` is true (tailsamplingprocessor README); its `cache_max_size`, a whole
@@ -245,6 +248,7 @@ fn given_by(alloc: Global, table: &Table, policies: Policies) -> Result<Config, 
         decisions_max_mib: number_at(table, NumberKey::DecisionsMax),
         request_record: places.request_record,
         record_max_mib: number_at(table, NumberKey::RecordMax),
+        record_policy: truth_at(table, "record_policy"),
         log: log_form_at(table),
         accept_gzip: truth_at(table, "accept_gzip"),
         accept_protobuf: truth_at(table, "accept_protobuf"),
