@@ -1,6 +1,6 @@
 -- No span is counted as one that found a queue full but by its lane: no journal counts one so, and no batch that was given
 -- up; and at ends where a push waits for room, none is refused. For the law of `Worked`.
-use Rattle.std.proofs.Common.{◌≡◌, ℕ, ◌+◌, ◌<◌, Bool, true, false, not, ◌||◌, cond, List, [], ◌∷◌, ◌++◌, length, nat_lt, option_and_then, Option, Some, None, All, slice_get, inl, inr, refl, sym, ap, subst, ◌∙◌, arith}
+use Rattle.std.proofs.Common.{◌≡◌, ℕ, ◌+◌, ◌<◌, Bool, true, false, not, ◌||◌, cond, List, [], ◌∷◌, ◌++◌, length, nat_lt, option_and_then, Option, Some, None, slice_get, inl, inr, refl, sym, ap, subst, ◌∙◌, arith}
 use Rattle.std.proofs.lemmas.List.Elements.{All-set}
 use Rattle.span_ids.specs.declared.outcome.Verdict.{Verdict}
 use Rattle.span_ids.specs.declared.outcome.Verdict.TheVariants.{Sampled, NotSampled}
@@ -14,7 +14,7 @@ use Rattle.otlp_types.specs.declared.arrival.Item.TheVariants.{Span, Tick, End}
 use Rattle.lane_queue.specs.Ends.{EndState, WaitAs, TakesItem, IsRefused}
 use Rattle.lane_seq.specs.Pushes.{TakesAt, RefusesAt, PushesOne, PushesAll}
 use Rattle.journal_theory.specs.Journal.{Settings, Journal, Notes, Opening, Decision, Finding, joins, meets, opens, leaving, finding, notes, decided_as, spans_since, decisions_now}
-use Rattle.journal_theory.specs.Fate.{DroppedSpan, Effect, counts, under, is_same_reason, effect, effect_of_verdict, effect_of_leaving_decided, effect_of_leaving, effect_of_finding, effect_of_span, effect_of_item, effect_of_taking, effect_of_decision, effect_of_decisions, ◌then◌}
+use Rattle.journal_theory.specs.Fate.{DroppedSpan, counts, under, is_same_reason, effect, effect_of_verdict, effect_of_leaving_decided, effect_of_leaving, effect_of_finding, effect_of_span, effect_of_item, effect_of_taking, effect_of_decision, effect_of_decisions}
 use Rattle.journal_theory.proofs.Counted.{under_append, under_counts}
 use Rattle.world_theory.proofs.Steps.{or_both}
 use Rattle.world_theory.specs.World.{CoreConfig, settings_for}

@@ -171,6 +171,6 @@ call_taken names policies batch [] hands quiet answers h = subst (λ (z : List H
 call_taken names policies batch ((shard, pulled (ShippedSpan a policy) answer) ∷ calls) hands quiet answers h = call_taken names (policies ++ policy ∷ []) (batch ++ a ∷ []) calls hands quiet.1 answers h
 call_taken names policies batch ((shard, pulled (ShippedEnd s) answer) ∷ calls) hands quiet answers h = call_taken names policies batch calls hands quiet.1 answers h
 call_taken names policies batch ((shard, flushed answer) ∷ calls) hands quiet answers h =
-    subst (λ (z : List (List ℕ)). TakenOf names (dropped_by answer batch ++ counted_in [] calls) (handed_by answer batch ++ handed_in [] calls) z) (sym (ap printed_lines h.2 ∙ hands_append prints_refused h.0 h.1))
+    subst (λ (z : List (List ℕ)). TakenOf names (dropped_by answer batch ++ counted_in [] calls) (handed_by answer batch ++ handed_in [] calls) z) (sym (ap printed_lines h.2 ∙ hands_append names prints_refused h.0 h.1))
     (taken_both names (dropped_by answer batch) (counted_in [] calls) (handed_by answer batch) (handed_in [] calls) (printed_lines h.0) (printed_lines h.1) (flush_taken names policies batch answer h.0 answers.0 h.3) (call_taken names [] [] calls h.1 quiet.1 answers.1 h.4))
 call_taken names policies batch ((shard, noted line answer) ∷ calls) hands quiet answers h = absurd quiet.0

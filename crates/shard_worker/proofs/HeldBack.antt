@@ -18,7 +18,7 @@ use Rattle.lane_queue.proofs.Called.{pops-append, empty-append, still_empty}
 use Rattle.journal_theory.specs.Journal.{Entry, Settings, has_ids}
 use Rattle.journal_theory.specs.Marked.{MarksApply, marks_apply}
 use Rattle.shard_core.specs.Held.{Held, settings}
-use Rattle.shard_worker.specs.Work.{items, places, journal_of, is_tick, IsBehind, AreSince}
+use Rattle.shard_worker.specs.Work.{items, places, journal_of, is_tick, IsBehind}
 use Rattle.shard_worker.specs.Turns.{HasDone, TakesItem, HasTaken, HoldsBack, IsCalled, AreAt, IsOf}
 use Rattle.shard_worker.proofs.Journals.{journal_one, items_more, unmarked}
 

@@ -1,7 +1,6 @@
 -- What a shard's thread did.
 use Rattle.std.specs.Prelude.{◌≡◌, ◌≢◌, ◌⊎◌, ℕ, ◌<◌, ◌≤◌, Bool, true, false, List, [], ◌∷◌, ◌++◌, map, filter, reverse, length}
 use Rattle.std.specs.List.{AllByRecursion}
-use Rattle.otlp_types.specs.declared.arrival.Arrival.{Arrival}
 use Rattle.otlp_types.specs.declared.arrival.Item.{Item}
 use Rattle.otlp_types.specs.declared.arrival.Item.TheVariants.{Tick}
 use Rattle.released_spans.specs.declared.shipment.Shipment.{Shipment}

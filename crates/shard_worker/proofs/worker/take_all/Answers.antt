@@ -1,6 +1,6 @@
 -- What is popped is taken in rounds.
 -- For the clauses of `take_all`.
-use Rattle.std.proofs.Common.{◌≡◌, ◌∙◌, ◌∷◌, ◌++◌, ℕ, List, [], length, refl, sym, ap, subst, append-nil, append_assoc, arith}
+use Rattle.std.proofs.Common.{◌≡◌, ◌∙◌, ◌∷◌, ◌++◌, ℕ, [], length, refl, sym, ap, subst, append-nil, append_assoc, arith}
 use Rattle.lane_queue.specs.declared.calls.Call.TheVariants.{Popped}
 use Rattle.lane_queue.proofs.Merging.{merge_none}
 use Rattle.journal_theory.specs.Journal.{Settings}

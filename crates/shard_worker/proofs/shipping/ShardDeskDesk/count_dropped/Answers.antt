@@ -6,4 +6,4 @@ use Rattle.shard_worker.proofs.Counting.{under_one}
 use Rattle.shard_worker.proofs.shipping.ShardDeskDesk.count_dropped.Goals as goal
 
 pub returns : goal.returns
-returns g c = (shipped-none c.args.self.now.sender, tallies_one (Dropped c.args.why) c.args.spans _ c.args.self.now.tally c.count.new.self (under_one c.args.why c.args.spans _ refl refl (λ s. refl)) c.count.ensures.counted c.count.ensures.cause)
+returns g c = (shipped-none c.args.self.now.policy c.args.self.now.sender, tallies_one (Dropped c.args.why) c.args.spans _ c.args.self.now.tally c.count.new.self (under_one c.args.why c.args.spans _ refl refl (λ s. refl)) c.count.ensures.counted c.count.ensures.cause)

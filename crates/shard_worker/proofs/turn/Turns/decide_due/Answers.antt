@@ -10,7 +10,6 @@ use Rattle.journal_theory.specs.Fate.{effect, effect_dealt}
 use Rattle.shard_core.specs.Held.{Held, StandsFor, settings}
 use Rattle.shard_core.specs.Taking.{DecidesWithAnswers, dealt_after}
 use Rattle.shard_core.proofs.Deciding.{without_answers, without_decider}
-use Rattle.shard_worker.specs.Turns.{recorded}
 use Rattle.shard_worker.proofs.Nodes.{knows_kept}
 use Rattle.shard_worker.proofs.Moves.{given_after, at_decided, done_decided}
 use Rattle.shard_worker.proofs.turn.Turns.decide_due.Goals as goal
@@ -40,7 +39,7 @@ returns-then-not-settle_decided g c =
       done = λ first before e past dealt at.
           let now = inv.6 first before e past dealt at in
           let P : Journal = record e { answers = now.1 } ∷ past in
-          let here = at_decided A first t u before old new c.loop.self.desk.sender.items c.settle_decided.new.desk.sender.items c.loop.self.desk.tally c.settle_decided.new.desk.tally e past now.1 now.0 (recorded did.decider) did.decided now.2
+          let here = at_decided A first t u before old new c.loop.self.desk.sender.items c.settle_decided.new.desk.sender.items c.loop.self.desk.tally c.settle_decided.new.desk.tally e past now.1 now.0 c.recorded-self.result did.decided now.2
           decides told_settings (ap (λ x. x.items) settled.takes.0) settled.takes.1 in (
             now.1,
             done_decided A first u before old new c.settle_decided.new.desk.sender.items c.settle_decided.new.desk.tally e past now.1 decides.0 now.0 did.decided none told_settings
@@ -88,7 +87,7 @@ loop-preserved g c =
           let now = inv.6 first before e past dealt at in (
             dealt_after did.decided now.0,
             given_after did.decided now.1 decides.0,
-            at_decided A first t u before old new c.loop.self.desk.sender.items c.settle_decided.new.desk.sender.items c.loop.self.desk.tally c.settle_decided.new.desk.tally e past now.1 now.0 (recorded did.decider) did.decided now.2
+            at_decided A first t u before old new c.loop.self.desk.sender.items c.settle_decided.new.desk.sender.items c.loop.self.desk.tally c.settle_decided.new.desk.tally e past now.1 now.0 c.recorded-self.result did.decided now.2
                 decides told_settings (ap (λ x. x.items) settled.takes.0) settled.takes.1,
           ),
     )
