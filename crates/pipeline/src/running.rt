@@ -207,8 +207,15 @@ fn exporter_of<Output: Destination>(
 ) -> Result<Exporter<Output>, (Output, AllocError)>
     requires has_room { 0 < config.now.send_batch_size }
     requires has_shards { 0 < config.now.shards }
-    ensures made { IfOk result (λ e. e ≡ record { batch = []; policies = []; names = recorded_names config.now; size = config.now.send_batch_size;
-        ends = replicate config.now.shards false; manner = Output.manner; sink = Output.state destination }) }
+    ensures made { IfOk result (λ e. e ≡ record {
+      batch = [];
+      policies = [];
+      names = recorded_names config.now;
+      size = config.now.send_batch_size;
+      ends = replicate config.now.shards false;
+      manner = Output.manner;
+      sink = Output.state destination;
+    }) }
     ensures back { IfErr result (λ pair. pair.0 ≡ destination) }
 {
     match recorded_names(alloc, config) {

@@ -73,6 +73,7 @@ impl<'s, QueueRoom: Room, ExportRoom: Room, Observer: Barrier + Watcher, Runtime
             limiter: seat,
             desk: ShardDesk {
                 sender,
+                policy: None,
                 tally: Tally::new(Told::new(observer)),
             },
             brake: Some(brake),
