@@ -73,7 +73,7 @@ fn has_file_of_others(config: &Config, lines: LinesOf) -> bool {
 // The thread opens files, so all that the runtime has of these must be free to go there, folders as well (D-387).
 fn opened_lines<
     T: Files<File = File> + Machine + Copy + Send + 'static,
-    N: Drop,
+    N: Send + Drop + 'static,
     S: EntrySource<N> + LineLosses + Send + Drop + 'static,
     L: LineMaker<N> + Send + Drop + 'static,
     E: Write + Drop,
@@ -105,7 +105,7 @@ where
 /// Starts what writes such lines to the file that the configuration names.
 fn writer_of<
     T: Files<File = File> + Machine + Copy + Send + 'static,
-    N: Drop,
+    N: Send + Drop + 'static,
     S: EntrySource<N> + LineLosses + Send + Drop + 'static,
     L: LineMaker<N> + Send + Drop + 'static,
 >(

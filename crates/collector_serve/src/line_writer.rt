@@ -32,7 +32,7 @@ impl LineWriter {
 
     /// Starts the thread. An error: none is started.
     pub fn start<
-        T: Drop,
+        T: Send + Drop + 'static,
         W: Write + Send + Drop + 'static,
         S: EntrySource<T> + LineLosses + Send + Drop + 'static,
         L: LineMaker<T> + Send + Drop + 'static,

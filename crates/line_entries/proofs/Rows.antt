@@ -1,7 +1,6 @@
 -- A line of the record, computed.
-use Rattle.std.proofs.Common.{◌≡◌, codes, refl}
+use Rattle.std.proofs.Common.{codes, refl}
 use Rattle.std.specs.Fmt.{digits}
-use Rattle.script_line.specs.Line.{receive_line, tick_line}
 use Rattle.line_entries.specs.RecordLines.{IsCameLine}
 use Rattle.line_entries.specs.declared.came.Came.TheVariants as came
 

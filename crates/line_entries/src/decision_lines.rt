@@ -1,11 +1,11 @@
 //! The lines of decided and evicted traces and of late spans.
-ghost use Rattle.std.specs.Prelude.{◌≡◌, ℕ, List, ◌++◌, map, string_bytes};
+ghost use Rattle.std.specs.Prelude.{◌≡◌, ℕ, List, ◌++◌, map, string_bytes, take};
 ghost use Rattle.std.specs.Bool.{OnTrue, OnFalse};
 ghost use Rattle.line_entries.specs.DecisionLines.{IsNewsLine, trace_line};
 
 use crate::line_news::LineNews;
 use decision_json::TraceNews;
-use decision_line::{put_decided, put_evicted, put_late};
+use decision_line::{Said, put_decided, put_evicted, put_late};
 use line_writing::LineMaker;
 use std::marker::Model;
 
@@ -51,9 +51,17 @@ fn put_trace(text: &mut Vec<u8>, names: &[String], news: &TraceNews) -> bool
 {
     match news {
         TraceNews::Decided { trace, said, asked } => {
-            let asked = (*asked).min(said.len());
-            put_decided(text, names, &said[..asked], trace).is_ok()
+            let told = first_said(said.as_slice(), *asked);
+            put_decided(text, names, told, trace).is_ok()
         }
         TraceNews::Evicted(trace) => put_evicted(text, trace).is_ok(),
     }
+}
+
+/// What the policies said that were asked, which are so many.
+#[tactic(auto, using(crate::proofs::Asked::first_of))]
+fn first_said(said: &[Said], asked: usize) -> &[Said]
+    ensures { result.now ≡ take asked said.now }
+{
+    &said[..asked.min(said.len())]
 }
