@@ -39,7 +39,7 @@ abbrev pub TakesWhileWanted : {T : Type 0} → (left : List ℕ) → List (Taken
 TakesWhileWanted left [] = Unit {0}
 TakesWhileWanted left (e ∷ entries) = (length left < enough) × TakesWhileWanted (left ++ text_put e.line) entries
 
--- Why no more entries were taken: enough bytes are left, or very many entries were taken; or the last call gave none.
+-- How the taking ended: some entries may wait still; or the last call gave none.
 abbrev pub Ends : {S T : Type 0} → (gives : S → Option T → S → Type 0) → (may_wait : Bool) → (between new : S) → Type 0
 Ends gives true between new = new ≡ between
 Ends gives false between new = gives between None new
