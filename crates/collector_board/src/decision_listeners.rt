@@ -2,10 +2,11 @@
 ghost use Rattle.std.specs.Prelude.{◌≡◌};
 ghost use Rattle.collector_board.specs.Looks.{is_looked_at};
 
-use crate::decision_queue::{DecisionQueue, LineNews};
+use crate::decision_queue::DecisionQueue;
 use crate::decision_ring::DecisionRing;
 use decision_json::TraceNews;
 use decision_line::{DecidedTrace, EvictedTrace, LateSpans, Said};
+use line_entries::LineNews;
 use policy_tree::Policies;
 use std::alloc::{AllocError, Global};
 use std::sync::atomic::{AtomicBool, AtomicU64, Ordering};

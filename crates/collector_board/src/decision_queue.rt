@@ -1,7 +1,7 @@
 //! What shards tell of their decisions, until it is written.
 use crossbeam_queue::ArrayQueue;
-use decision_json::{MOST_SAID, TraceNews};
-use decision_line::LateSpans;
+use decision_json::MOST_SAID;
+use line_entries::LineNews;
 use policy_eval::MOST_POLICIES;
 use std::alloc::{AllocError, Global};
 use std::sync::Wait;
@@ -11,15 +11,6 @@ use std::sync::atomic::{AtomicU64, Ordering};
 const MOST_WAITING: usize = 65_536;
 
 const _: () = prove!(MOST_SAID == MOST_POLICIES);
-
-/// What a line is written for.
-#[derive(Clone, Copy)]
-pub enum LineNews {
-    /// What became of a trace.
-    Trace(TraceNews),
-    /// Spans that came late.
-    Late(LateSpans),
-}
 
 /// Decisions that shards told and nobody has taken yet.
 #[derive(Drop)]

@@ -25,12 +25,12 @@ mod write_watch;
 
 pub use board::Board;
 pub use decision_listeners::{DecisionListeners, LOOKED_FOR};
-pub use decision_queue::{DecisionQueue, LineNews};
+pub use decision_queue::DecisionQueue;
 pub use decision_ring::{DecisionRing, REMEMBERED};
 pub use export_progress::{ExportProgress, left_by};
 pub use export_watch::ExportWatch;
 pub use output_stall::OutputStall;
-pub use record_queue::{Came, RecordQueue, TakenRequest};
+pub use record_queue::RecordQueue;
 pub use stop_mark::{Closer, StopMark};
 pub use stopping_sink::StoppingSink;
 pub use trace_questions::TraceQuestions;

@@ -2,6 +2,7 @@
 ghost use Rattle.std.specs.Prelude.{◌≡◌, ◌+◌, nat_le};
 
 use crossbeam_queue::ArrayQueue;
+use line_entries::{Came, TakenRequest};
 use otlp_encoding::Encoding;
 use std::alloc::{AllocError, Global};
 use std::sync::Wait;
@@ -12,27 +13,6 @@ const MOST_WAITING: usize = 65_536;
 
 /// At most so many bytes of requests wait until they are written.
 const MOST_BYTES: u64 = 67_108_864;
-
-/// A request that was taken.
-#[derive(Drop)]
-pub struct TakenRequest {
-    /// The number of its connection.
-    pub connection: u64,
-    /// When its body had been read, in milliseconds.
-    pub moment: u64,
-    pub encoding: Encoding,
-    /// Its body, unpacked.
-    pub text: Vec<u8>,
-}
-
-/// What came.
-#[derive(Drop)]
-pub enum Came {
-    /// A request was taken.
-    Request(TakenRequest),
-    /// A tick was due at this moment, in milliseconds.
-    Tick(u64),
-}
 
 /// What came and nobody has taken yet.
 #[derive(Drop)]

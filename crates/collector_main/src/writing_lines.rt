@@ -1,8 +1,10 @@
 //! Where the lines of decisions go, and the record of what came.
 use crate::logging::say_fault;
 use collector_serve::{
-    Charge, DecisionLines, EventWriter, LineFile, LineMaker, LineWriter, LinesOf, RecordLines,
+    Charge, DecisionEntries, EventWriter, LineFile, LineLosses, LineWriter, LinesOf, RecordEntries,
 };
+use line_entries::{DecisionLines, RecordLines};
+use line_writing::{EntrySource, LineMaker};
 use pipeline::Machine;
 use std::alloc::{AllocError, Global};
 use std::fs::File;
@@ -27,8 +29,8 @@ pub fn opened_decisions<T: Files<File = File> + Machine + Copy + Send + 'static,
 where
     T::Dir: Send + 'static,
 {
-    let maker = decision_lines(alloc, config);
-    opened_lines(rt, alloc, config, charge, LinesOf::Decisions, maker, events)
+    let begun = decision_lines(alloc, config, charge);
+    opened_lines(rt, alloc, config, charge, LinesOf::Decisions, begun, events)
 }
 
 /// Starts what writes a line for each request that is taken and each tick, where the configuration names a file for them.
@@ -43,8 +45,8 @@ pub fn opened_record<T: Files<File = File> + Machine + Copy + Send + 'static, E:
 where
     T::Dir: Send + 'static,
 {
-    let maker = Ok(RecordLines::new(alloc));
-    opened_lines(rt, alloc, config, charge, LinesOf::Record, maker, events)
+    let begun = record_lines(alloc, charge);
+    opened_lines(rt, alloc, config, charge, LinesOf::Record, begun, events)
 }
 
 /// The file that the configuration names for such lines, or an empty path, and the bytes after which a new one is begun, or
@@ -71,7 +73,9 @@ fn has_file_of_others(config: &Config, lines: LinesOf) -> bool {
 // The thread opens files, so all that the runtime has of these must be free to go there, folders as well (D-387).
 fn opened_lines<
     T: Files<File = File> + Machine + Copy + Send + 'static,
-    L: LineMaker + Send + Drop + 'static,
+    N: Send + Drop + 'static,
+    S: EntrySource<N> + LineLosses + Send + Drop + 'static,
+    L: LineMaker<N> + Send + Drop + 'static,
     E: Write + Drop,
 >(
     rt: &T,
@@ -79,7 +83,7 @@ fn opened_lines<
     config: &Config,
     charge: &Arc<Charge, Global>,
     lines: LinesOf,
-    maker: io::Result<L>,
+    begun: io::Result<(S, L)>,
     events: &mut EventWriter<E>,
 ) -> io::Result<LineWriter>
 where
@@ -89,7 +93,7 @@ where
     if path.is_empty() {
         return Ok(LineWriter::none());
     }
-    match writer_of(rt, alloc, config, charge, lines, maker) {
+    match writer_of(rt, alloc, config, charge, lines, begun) {
         Ok(writer) => Ok(writer),
         Err(error) => {
             say_fault(rt, alloc, events, "cannot_write", path, error);
@@ -101,14 +105,16 @@ where
 /// Starts what writes such lines to the file that the configuration names.
 fn writer_of<
     T: Files<File = File> + Machine + Copy + Send + 'static,
-    L: LineMaker + Send + Drop + 'static,
+    N: Send + Drop + 'static,
+    S: EntrySource<N> + LineLosses + Send + Drop + 'static,
+    L: LineMaker<N> + Send + Drop + 'static,
 >(
     rt: &T,
     alloc: Global,
     config: &Config,
     charge: &Arc<Charge, Global>,
     lines: LinesOf,
-    maker: io::Result<L>,
+    begun: io::Result<(S, L)>,
 ) -> io::Result<LineWriter>
 where
     T::Dir: Send + 'static,
@@ -122,12 +128,27 @@ where
     let keep = u32::try_from(config.output_keep).unwrap_or(u32::MAX);
     let shared = Arc::try_clone(charge)?;
     let file = LineFile::open(rt, alloc, path, keep, longest, shared, lines)?;
-    LineWriter::start(rt, alloc, file, maker?, Arc::try_clone(charge)?)
+    let (entries, maker) = begun?;
+    LineWriter::start(rt, alloc, file, entries, maker, Arc::try_clone(charge)?)
 }
 
-/// What makes the lines of decisions. An error: there is no memory for the names of the policies.
-fn decision_lines(alloc: Global, config: &Config) -> io::Result<DecisionLines> {
-    Ok(DecisionLines::new(names_of(alloc, config)?))
+/// Where decisions wait, and what makes their lines. An error: there is no memory for the names of the policies.
+fn decision_lines(
+    alloc: Global,
+    config: &Config,
+    charge: &Arc<Charge, Global>,
+) -> io::Result<(DecisionEntries, DecisionLines)> {
+    let lines = DecisionLines::new(names_of(alloc, config)?);
+    Ok((DecisionEntries::new(Arc::try_clone(charge)?), lines))
+}
+
+/// Where what came waits, and what makes its lines.
+fn record_lines(
+    alloc: Global,
+    charge: &Arc<Charge, Global>,
+) -> io::Result<(RecordEntries, RecordLines)> {
+    let lines = RecordLines::new(alloc);
+    Ok((RecordEntries::new(Arc::try_clone(charge)?), lines))
 }
 
 /// The names of the policies, in order.

@@ -1,8 +1,7 @@
 //! The thread that writes lines of what is told.
 use crate::charge::Charge;
-use crate::lines_to_write::LinesToWrite;
-use collector_board::Board;
 use http_lane::HasStopMark;
+use line_writing::{EntrySource, LineMaker, LinesToWrite, take_rest, write_turn};
 use std::alloc::Global;
 use std::io::Write;
 use std::sync::{Arc, Wait};
@@ -13,13 +12,10 @@ use std::{io, thread};
 /// The time between two looks at what waits, in milliseconds.
 const PAUSE: u64 = 100;
 
-/// What makes lines of what waits on the board.
-pub trait LineMaker {
-    /// Makes lines of what waits, until there are enough to be written, and says whether some may wait still.
-    fn fill<R: Wait>(&mut self, lines: &mut LinesToWrite, rt: &R, board: &Board) -> bool;
-
-    /// No more lines are written, and so many that were made aren't: counts these as lost, and all that waits.
-    fn lose<R: Wait>(&mut self, unwritten: u64, rt: &R, board: &Board);
+/// Where lines that are never written are counted.
+pub trait LineLosses {
+    /// So many lines more are never written.
+    fn loses(&self, lines: u64);
 }
 
 /// Writes lines until the run is over and none waits. `None`: none is written.
@@ -36,13 +32,22 @@ impl LineWriter {
 
     /// Starts the thread. An error: none is started.
     pub fn start<
+        T: Send + Drop + 'static,
         W: Write + Send + Drop + 'static,
-        L: LineMaker + Send + Drop + 'static,
+        S: EntrySource<T> + LineLosses + Send + Drop + 'static,
+        L: LineMaker<T> + Send + Drop + 'static,
         R: Threads + Wait + Clock + Copy + Send + 'static,
-    >(rt: &R, alloc: Global, output: W, maker: L, charge: Arc<Charge, Global>) -> io::Result<Self> {
+    >(
+        rt: &R,
+        alloc: Global,
+        output: W,
+        entries: S,
+        maker: L,
+        charge: Arc<Charge, Global>,
+    ) -> io::Result<Self> {
         let own = *rt;
         let thread = thread::spawn(rt, move || {
-            write_lines(&own, alloc, output, maker, &charge)
+            write_lines(&own, alloc, output, entries, maker, &charge)
         })?;
         Ok(LineWriter {
             thread: Some(thread),
@@ -59,27 +64,28 @@ impl LineWriter {
 }
 
 /// Writes what waits again and again, until the run is over and nothing waits, or can be written.
-fn write_lines<W: Write + Drop, L: LineMaker + Drop, R: Wait + Clock>(
-    rt: &R,
-    alloc: Global,
-    output: W,
-    maker: L,
-    charge: &Charge,
-) {
+fn write_lines<
+    T: Drop,
+    W: Write + Drop,
+    S: EntrySource<T> + LineLosses + Drop,
+    L: LineMaker<T> + Drop,
+    R: Wait + Clock,
+>(rt: &R, alloc: Global, output: W, entries: S, maker: L, charge: &Charge) {
     let mut output = output;
-    let mut maker = maker;
+    let mut entries = entries;
     let mut lines = LinesToWrite::new(alloc);
     for _ in rt.forever() {
         // Asked before lines are made, so that what was told before the end is written.
         let is_over = charge.over.is_set();
-        let may_wait = maker.fill(&mut lines, rt, &charge.board);
-        let goes_on = lines.write_to(&mut output) && may_wait;
-        if is_over && !goes_on {
+        let turn = write_turn(rt, &mut lines, &mut entries, &maker, &mut output);
+        entries.loses(turn.lost);
+        if is_over && !turn.goes_on {
             // What still can't be written is lost with the end.
-            maker.lose(lines.left(), rt, &charge.board);
+            let waiting = take_rest(rt, &mut entries);
+            entries.loses(lines.left().saturating_add(waiting));
             return;
         }
-        if !goes_on {
+        if !turn.goes_on {
             thread::sleep(rt, Duration::from_millis(PAUSE));
         }
     }

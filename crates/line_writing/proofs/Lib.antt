@@ -1,0 +1,5 @@
+pub mod OneMore
+pub mod OneTurn
+pub mod Resting
+pub mod Turning
+mod Rows
