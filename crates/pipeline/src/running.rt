@@ -1,5 +1,5 @@
 //! A run: all threads are started, or none does anything; the exporter works on the caller's.
-ghost use Rattle.std.specs.Prelude.{◌≡◌, ◌-◌, ◌^◌, ◌<◌, ◌≤◌, [], false, is_none, length, true, vec_len, IfErr, IfOk, IfSome};
+ghost use Rattle.std.specs.Prelude.{◌≡◌, ◌-◌, ◌^◌, ◌<◌, ◌≤◌, [], false, is_none, length, map, replicate, true, vec_len, IfErr, IfOk, IfSome};
 ghost use Rattle.std.specs.List.{list_any};
 ghost use Rattle.lane_worker.specs.Serving.{connection};
 ghost use Rattle.run_weave.specs.Received.{receives_one_by_one, receives_by_turns};
@@ -24,6 +24,7 @@ use lane_queue::Room;
 use lane_turns::Driver;
 use lane_worker::{Acceptor, ByTurns, LaneServer, OneByOne, Ticks};
 use otlp_types::{Text, TryClone};
+use policy_tree::Policy;
 use shared_budget::asked_seats_may_be_compared;
 use span_exporter::{Exporter, sink_takes_lines};
 use span_sink::{Destination, LineSink, Sink, takes_handed_lines};
@@ -234,11 +235,20 @@ fn exporter_of<Output: Destination>(
 fn recorded_names(alloc: Global, config: &Config) -> Result<Vec<Text>, AllocError>
     ensures { IfOk result (λ names. names.items ≡ recorded_names config.now) }
 {
-    let mut names = Vec::new(alloc);
     if config.record_policy {
-        for policy in config.policies.as_slice() {
-            names.push(policy.name.try_clone(alloc)?)?;
-        }
+        names_of(alloc, config.policies.as_slice())
+    } else {
+        Ok(Vec::new(alloc))
+    }
+}
+
+/// The names of policies, in order.
+fn names_of(alloc: Global, policies: &[Policy]) -> Result<Vec<Text>, AllocError>
+    ensures { IfOk result (λ names. names.items ≡ map (λ p. p.name) policies.now) }
+{
+    let mut names = Vec::new(alloc);
+    for policy in policies {
+        names.push(policy.name.try_clone(alloc)?)?;
     }
     Ok(names)
 }
