@@ -16,9 +16,8 @@ one_more seed file at after whole bytes is it_is place =
     ∙ ap (λ (l : List ℕ). l ∷ records_in seed (drop (9 + claimed (drop at file)) (drop at file))) (sym held)
     ∙ ap (λ (l : List ℕ). bytes ∷ records_in seed l) (drop-drop (9 + claimed (drop at file)) at file ∙ ap (λ (k : ℕ). drop k file) (sym next))
 
-pub visited_more : (visited visited' : List (List ℕ)) (bytes : List ℕ) (rest found all : List (List ℕ)) → visited' ≡ visited ++ bytes ∷ [] → found ≡ bytes ∷ rest → visited ++ found ≡ all → visited' ++ rest ≡ all
-visited_more visited visited' bytes rest found all was is so_far =
-    ap (λ (l : List (List ℕ)). l ++ rest) was ∙ append_assoc visited (bytes ∷ []) rest ∙ ap (λ (l : List (List ℕ)). visited ++ l) (sym is) ∙ so_far
+pub visited_more : (visited : List (List ℕ)) (bytes : List ℕ) (rest found all : List (List ℕ)) → found ≡ bytes ∷ rest → visited ++ found ≡ all → (visited ++ bytes ∷ []) ++ rest ≡ all
+visited_more visited bytes rest found all is so_far = append_assoc visited (bytes ∷ []) rest ∙ ap (λ (l : List (List ℕ)). visited ++ l) (sym is) ∙ so_far
 
 pub place_more : (seed at after : ℕ) (bytes : List ℕ) (rest found : List (List ℕ)) (all : ℕ) → after ≡ at + (9 + length bytes) → found ≡ bytes ∷ rest → at + length (frames seed found) ≡ all → after + length (frames seed rest) ≡ all
 place_more seed at after bytes rest found all place is so_far =

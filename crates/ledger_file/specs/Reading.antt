@@ -37,3 +37,7 @@ IsPrefixOf front items = (rest : List (List ℕ)) × (items ≡ front ++ rest)
 -- each file that a crash may leave has the first n bytes of this one
 abbrev pub AgreesUpTo : ℕ → List ℕ → (List ℕ → Type 0) → Type 0
 AgreesUpTo n file may_leave = (c : List ℕ) → may_leave c → take n c ≡ take n file
+
+-- a visitor was given some records, and has become so by them; where the disk told no lie, they are those
+abbrev pub WasGiven : {V : Type 0} → (has_visited : V → List (List ℕ) → V → Type 0) → (is_clean : Type 0) → (old : V) → List (List ℕ) → (new : V) → Type 0
+WasGiven has_visited is_clean old records new = (given : List (List ℕ)) × has_visited old given new × (is_clean → given ≡ records)

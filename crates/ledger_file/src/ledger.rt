@@ -1,7 +1,7 @@
 //! The ledger.
 ghost use Rattle.std.specs.Prelude.{◌≡◌, ◌++◌, ◌∷◌, [], ◌≤◌, ◌⊎◌, List, ℕ, length, IsTrue, IfOk, IfErr, OnOk, OnErr, ◌&&◌, false};
 ghost use Rattle.ledger_file.specs.Format.{parameters_of, records_of};
-ghost use Rattle.ledger_file.specs.Reading.{AgreesUpTo};
+ghost use Rattle.ledger_file.specs.Reading.{AgreesUpTo, WasGiven};
 
 use crate::batch::Batch;
 use crate::create::make;
@@ -58,8 +58,8 @@ impl<D: Disk> Ledger<D> {
     ) -> Result<(Ledger<D>, Vec<u8>), (LedgerError, D)>
         requires { IsTrue (D.Disk.is_usable disk) }
 
-        // What was visited are the records of the file, and it still has them.
-        ensures visited { IfOk result (λ found. IsTrue (D.Disk.is_clean (disk_of found.0)) → V.visited visitor.new ≡ V.visited visitor.old ++ records_of (D.Disk.seen disk)) }
+        // What was visited are the records of the file, if the disk told no lie, and it still has them.
+        ensures visited { IfOk result (λ found. WasGiven V.has_visited (IsTrue (D.Disk.is_clean (disk_of found.0))) visitor.old (records_of (D.Disk.seen disk)) visitor.new) }
         ensures parameters { IfOk result (λ found. IsTrue (D.Disk.is_clean (disk_of found.0)) → found.1.items ≡ parameters_of (D.Disk.seen disk)) }
         ensures same { IfOk result (λ found. IsTrue (D.Disk.is_clean (disk_of found.0)) → Has (parameters_of (D.Disk.seen disk)) (records_of (D.Disk.seen disk)) (D.Disk.seen (disk_of found.0))) }
         ensures rests { IfOk result (λ found. RestsIfOpen D.Disk.seen D.Disk.may_leave D.Disk.is_clean found.0) }

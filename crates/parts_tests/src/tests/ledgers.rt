@@ -1,5 +1,6 @@
 //! A ledger whose run is cut off at each of its calls of the disk, and which is opened again.
 ghost use Rattle.std.specs.Prelude.{◌≡◌, ◌++◌, ◌∷◌, [], List, ℕ, map, OnOk};
+ghost use Rattle.std.proofs.lemmas.List.{append-nil};
 
 use ledger_file::{Ledger, LedgerError, Visit};
 use sqlite_disk::{Crash, Disk, Fuse, Memory};
@@ -13,13 +14,15 @@ struct Kept {
 }
 
 impl Visit for Kept {
-    ghost visited = { λ k. map (λ v. v.items) k.records.items };
+    ghost has_visited = { λ first records k. map (λ v. v.items) first.records.items ++ records ≡ map (λ v. v.items) k.records.items };
 
     fn visit(&mut self, bytes: &[u8]) -> Result<(), LedgerError> {
         let mut copy = Vec::new(*self.records.allocator());
         copy.extend_from_slice(bytes)?;
         Ok(self.records.push(copy).map_err(|_| LedgerError::NoMemory)?)
     }
+
+    ghost starts = { λ k. append-nil (map (λ v. v.items) k.records.items) };
 }
 
 /// Commits one record, and then two. Answers how many were committed, and the disk.

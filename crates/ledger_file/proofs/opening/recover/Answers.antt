@@ -15,22 +15,27 @@ seeded start parameters slice len size middle seed starts lens same middle_is is
     ∙ sym (fold-append after_byte 0xFFFFFFFF (magic ++ to_le_bytes w32 (length parameters)) parameters)
 
 pub returns-clause-visited : goal.returns-clause-visited
-returns-clause-visited g c clean =
-    let f0 = g.D.Disk.seen c.args.disk.now in
-    let p = c.in_ok-parameters.parameters.items in
-    let seed = c.extend_checksum-seed.result in
-    let clean4 = c.shut.ensures.clean clean in
-    let clean3 = c.visit_records.ensures.only.clean clean4 in
-    let same_len : g.D.Disk.seen c.len.new.self ≡ f0 = c.len.ensures.seen ∙ c.sync.ensures.seen in
-    let same3 : g.D.Disk.seen c.read_parameters.new.disk ≡ f0 = c.read_parameters.ensures.only.same ∙ same_len in
-    let begins : BeginsWith f0 p = subst (λ f. BeginsWith f p) same_len (c.in_ok-parameters.ensures.found clean3) in
-    let known = c.in_ok-parameters.ensures.fits.0 in
-    let len2 : c.len-2.result ≡ length p = search rules in
-    let len3 : 12 + c.len-3.result ≡ 12 + length p = search rules in
-    let seeds : seed ≡ seed_of p = seeded c.header_start-start.result p c.deref.result.now c.len-2.result 0 c.extend_checksum.result seed c.header_start-start.ensures len2 c.deref.ensures.value c.extend_checksum.ensures c.extend_checksum-seed.ensures in
-    let place : c.in_ok-place.place ≡ 12 + c.len-3.result + length (frames seed (records_in seed (drop (12 + c.len-3.result) f0))) =
-    subst (λ f. c.in_ok-place.place ≡ 12 + c.len-3.result + length (frames seed (records_in seed (drop (12 + c.len-3.result) f)))) same3 (c.in_ok-place.ensures.place clean4) in
-    c.in_ok-place.ensures.visited clean4 ∙ ap (λ l. g.V.Visit.visited c.args.visitor.now ++ l) (ap (λ f. records_in seed (drop (12 + c.len-3.result) f)) same3 ∙ all_found f0 p known begins c.in_ok-place.place seed (12 + c.len-3.result) seeds len3 place)
+returns-clause-visited g c =
+    let given = c.in_ok-place.ensures.visited in (
+      given.0,
+      given.1,
+      λ clean.
+          let f0 = g.D.Disk.seen c.args.disk.now in
+          let p = c.in_ok-parameters.parameters.items in
+          let seed = c.extend_checksum-seed.result in
+          let clean4 = c.shut.ensures.clean clean in
+          let clean3 = c.visit_records.ensures.only.clean clean4 in
+          let same_len : g.D.Disk.seen c.len.new.self ≡ f0 = c.len.ensures.seen ∙ c.sync.ensures.seen in
+          let same3 : g.D.Disk.seen c.read_parameters.new.disk ≡ f0 = c.read_parameters.ensures.only.same ∙ same_len in
+          let begins : BeginsWith f0 p = subst (λ f. BeginsWith f p) same_len (c.in_ok-parameters.ensures.found clean3) in
+          let known = c.in_ok-parameters.ensures.fits.0 in
+          let len2 : c.len-2.result ≡ length p = search rules in
+          let len3 : 12 + c.len-3.result ≡ 12 + length p = search rules in
+          let seeds : seed ≡ seed_of p = seeded c.header_start-start.result p c.deref.result.now c.len-2.result 0 c.extend_checksum.result seed c.header_start-start.ensures len2 c.deref.ensures.value c.extend_checksum.ensures c.extend_checksum-seed.ensures in
+          let place : c.in_ok-place.place ≡ 12 + c.len-3.result + length (frames seed (records_in seed (drop (12 + c.len-3.result) f0))) =
+          subst (λ f. c.in_ok-place.place ≡ 12 + c.len-3.result + length (frames seed (records_in seed (drop (12 + c.len-3.result) f)))) same3 (c.in_ok-place.ensures.place clean4) in
+          given.2 clean4 ∙ ap (λ f. records_in seed (drop (12 + c.len-3.result) f)) same3 ∙ all_found f0 p known begins c.in_ok-place.place seed (12 + c.len-3.result) seeds len3 place,
+    )
 
 pub returns-clause-batch : goal.returns-clause-batch
 returns-clause-batch g c = (

@@ -20,17 +20,26 @@ loop-buffer-preserved g c =
     record {
       only = read_on g.D.Disk.seen g.D.Disk.may_leave g.D.Disk.is_usable g.D.Disk.is_clean c.args.disk.now c.loop-buffer.disk c.read_record.new.disk inv.only c.read_record.ensures.only;
       within = omega (arith, len, within);
-      visited = λ clean. visited_more (g.V.Visit.visited c.loop-buffer.visitor) (g.V.Visit.visited c.visit.new.self) buffer _ _ _ (c.in_ok-visit.ensures ∙ ap (λ b. g.V.Visit.visited c.loop-buffer.visitor ++ b ∷ []) c.deref.ensures.value) (next clean) (inv.visited (c.read_record.ensures.only.clean clean));
+      visited =
+          let done = inv.visited in (
+            done.0 ++ buffer ∷ [],
+            subst (λ b. g.V.Visit.has_visited c.args.visitor.now (done.0 ++ b ∷ []) c.visit.new.self) c.deref.ensures.value (c.in_ok-visit.ensures c.args.visitor.now done.0 done.1),
+            λ clean. visited_more done.0 buffer _ _ _ (next clean) (done.2 (c.read_record.ensures.only.clean clean)),
+          );
       place = λ clean. place_more c.args.seed at (at + (9 + c.len.result)) buffer _ _ _ after (next clean) (inv.place (c.read_record.ensures.only.clean clean));
     }
 
 pub returns-clause-visited : goal.returns-clause-visited
-returns-clause-visited g c clean =
+returns-clause-visited g c =
     let inv = c.loop-buffer.invariant in
-    let at = c.loop-buffer.at in
-    let none = none_left c.args.seed (g.D.Disk.seen c.args.disk.now) at c.in_ok-read_record.field-0 c.read_record.new.buffer.items
-    (subst (λ f. IsReadAt c.args.seed f at c.in_ok-read_record.field-0 c.read_record.new.buffer.items) inv.only.same (c.in_ok-read_record.ensures.found clean)) c.if-branch.false in
-    visited_all (g.V.Visit.visited c.loop-buffer.visitor) _ _ none (inv.visited (c.read_record.ensures.only.clean clean))
+    let done = inv.visited in (
+      done.0,
+      done.1,
+      λ clean. visited_all done.0 _ _
+          (none_left c.args.seed (g.D.Disk.seen c.args.disk.now) c.loop-buffer.at c.in_ok-read_record.field-0 c.read_record.new.buffer.items
+          (subst (λ f. IsReadAt c.args.seed f c.loop-buffer.at c.in_ok-read_record.field-0 c.read_record.new.buffer.items) inv.only.same (c.in_ok-read_record.ensures.found clean)) c.if-branch.false)
+          (done.2 (c.read_record.ensures.only.clean clean)),
+    )
 
 pub returns-clause-place : goal.returns-clause-place
 returns-clause-place g c clean =
