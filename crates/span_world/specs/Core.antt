@@ -1,5 +1,5 @@
 -- What a caller sees of the program's world.
-use Rattle.std.specs.Prelude.{◌≡◌, ℕ, ◌+◌, List, map}
+use Rattle.std.specs.Prelude.{◌≡◌, ℕ, ◌+◌, List, [], map}
 use Rattle.journal_theory.specs.Journal.{Settings}
 use Rattle.shard_journal.specs.Look.{Look, look_of}
 use Rattle.shard_journal.specs.Settings.{settings_of}
