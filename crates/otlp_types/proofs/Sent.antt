@@ -19,7 +19,6 @@ use Rattle.otlp_types.specs.contracts.span.Span as span
 use Rattle.otlp_types.specs.contracts.arrival.Record as rec
 use Rattle.otlp_types.specs.contracts.arrival.Arrival as arrival
 use Rattle.otlp_types.specs.contracts.arrival.Item as item
-use Rattle.otlp_types.specs.contracts.arrival.Shipment as shipment
 
 pub pair_send : IsSend pair.the_row
 pair_send = search (sendable, list.the_send, text.the_send, knot.send-KeyValue) depth 40
@@ -62,6 +61,3 @@ arrival_send = search (sendable, arrival_field) depth 20
 
 pub item_send : IsSend item.the_row
 item_send = search (sendable, arrival_field) depth 20
-
-pub shipment_send : IsSend shipment.the_row
-shipment_send = search (sendable, arrival_field) depth 20

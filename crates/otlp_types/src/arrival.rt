@@ -44,15 +44,6 @@ pub enum Item {
     End(u16),
 }
 
-/// What the exporter takes.
-#[derive(Drop)]
-pub enum Shipment {
-    /// A span of a sampled trace.
-    Span(Arrival),
-    /// The shard of this number sends nothing more.
-    End(u16),
-}
-
 impl TryClone for Record {
     fn try_clone(&self, alloc: Global) -> Result<Record, AllocError> {
         Ok(Record {

@@ -23,7 +23,7 @@ mod shared;
 mod span;
 mod value;
 
-pub use arrival::{Arrival, Item, Record, Shipment};
+pub use arrival::{Arrival, Item, Record};
 pub use boxed::Boxed;
 pub use double::Double;
 pub use list::{List, Text, TryClone};
