@@ -99,7 +99,10 @@ fn submit<
     if !count_reply(counts, &reply) {
         return (says_close, EventFate::Uncounted);
     }
-    tell_taken(lent, conn.key, moment, encoding, text, &reply);
+    // Nobody is told 200 whose request isn't kept where it has to be: the connection ends, and the client sends it again.
+    if !is_kept(lent, conn.key, moment, encoding, text, &reply) {
+        return (says_close, EventFate::Unwritten);
+    }
     let replied = Response::Replied {
         reply,
         closes: says_close,
@@ -107,18 +110,19 @@ fn submit<
     (says_close, answer(lent, encoding, writer, &replied))
 }
 
-/// Tells of a request that was taken.
-fn tell_taken<'l, Mark: HasStopMark, Time: Clock>(
+/// Tells of a request that was taken, and answers whether it may be answered.
+fn is_kept<'l, Mark: HasStopMark, Time: Clock>(
     lent: &Lent<'l, Mark, Time>,
     connection: ConnKey,
     moment: u64,
     encoding: Encoding,
     text: &[u8],
     reply: &Reply,
-) {
+) -> bool {
     if reply.is_received() {
-        lent.clock.took(connection, moment, encoding, text);
+        return lent.clock.took(connection, moment, encoding, text);
     }
+    true
 }
 
 /// Unpacks a body and serves its text, which may have at most `limit` bytes.

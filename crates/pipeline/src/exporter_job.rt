@@ -4,7 +4,8 @@ ghost use Rattle.std.specs.List.{list_any};
 ghost use Rattle.lane_queue.specs.Ends.{IsNew};
 ghost use Rattle.run_weave.specs.Jobs.{ExporterDid};
 
-use crate::telling::Told;
+use crate::telling::Settled;
+use crate::watched_inbox::work_watched;
 use drop_ledger::{Report, Tally};
 use job_threads::Job;
 use lane_queue::{Receiver, Room};
@@ -60,7 +61,8 @@ impl<'s, Output: Destination + Drop, ExportRoom: Room, Observer: Watcher, Runtim
             receiver,
             observer,
         } = self;
-        let end = span_exporter::work(rt, exporter, receiver, Tally::new(Told::new(observer)));
+        let tally = Tally::new(Settled::new(observer));
+        let end = work_watched(rt, exporter, receiver, tally, observer);
         let is_full = end.tally.is_full();
         ExporterLeft {
             exporter: end.exporter,

@@ -25,6 +25,7 @@ mod shard_job;
 mod shards;
 mod telling;
 mod ticker_job;
+mod watched_inbox;
 
 pub use fault::ServeFault;
 pub use lent::RunContext;

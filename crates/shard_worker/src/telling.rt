@@ -146,6 +146,7 @@ pub fn tell_load<C: Room, W: Watcher, R: Wait>(
     watcher.holds(
         number,
         ShardLoad {
+            now,
             queued: receiver.len(),
             traces,
             spans,

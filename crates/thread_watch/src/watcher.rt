@@ -1,7 +1,7 @@
 //! What threads count and hold, told while they run.
 use crate::barrier::Barrier;
 use decision_line::{DecidedTrace, EvictedTrace, LateSpans, Said, TraceHeld};
-use span_ids::TraceId;
+use span_ids::{SpanId, TraceId};
 use std::sync::Wait;
 
 /// At most so many traces are asked for at the same time.
@@ -10,6 +10,8 @@ pub const MOST_ASKED: usize = 8;
 /// What a shard holds.
 #[derive(Clone, Copy, PartialEq, Eq)]
 pub struct ShardLoad {
+    /// When it is told, in milliseconds: the tick that was taken last.
+    pub now: u64,
     /// Items that wait in its queues.
     pub queued: u64,
     /// Traces that wait for their decision.
@@ -63,6 +65,12 @@ pub trait Watcher {
 
     /// A shard hands over a span whose trace was decided before.
     fn handed_late(&self) {}
+
+    /// The exporter has taken this span of those that shards released.
+    fn pulled<R: Wait>(&self, _rt: &R, _trace: TraceId, _span: SpanId) {}
+
+    /// So many spans that the exporter had taken, the oldest of them, were handed over, or given up and counted.
+    fn settled(&self, _spans: u64) {}
 }
 
 /// What holds no thread, and is told nothing.

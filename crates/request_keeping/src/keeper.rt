@@ -1,0 +1,359 @@
+//! What writes what ended, and removes what is over.
+use crate::folder::{FileNumber, LedgerFolder};
+use crate::ledger::{LedgerNews, RequestLedger};
+use crate::notes::Notes;
+use crate::releases::Releases;
+use request_ledger::{LedgerNote, ShardStanding, has_room, is_settled};
+use std::alloc::{AllocError, Global};
+use std::collections::VecDeque;
+use std::fs::File;
+use std::io;
+use std::rt::Files;
+use std::sync::Wait;
+
+/// After so long a new segment is begun, in milliseconds.
+const SEGMENT_TIME: u64 = 10_000;
+
+/// With so many bytes a new segment is begun.
+const SEGMENT_BYTES: u64 = 67_108_864;
+
+/// How much later than a segment's last request a trace must have been opened that is sure to have none of it, in
+/// milliseconds: a lane may push a request's spans so long after it asked for their moment.
+const MARGIN: u64 = 5_000;
+
+/// Between two tries to open files again, in milliseconds.
+const TRY_AGAIN: u64 = 1_000;
+
+/// At most so many news are taken in one turn.
+const MOST_NEWS: usize = 262_144;
+
+/// How a keeper keeps.
+#[derive(Clone, Copy)]
+pub struct KeeperSettings {
+    /// How often files are synced, in milliseconds; 0: never.
+    pub sync_interval: u64,
+    /// The most mebibytes of requests.
+    pub max_mib: u64,
+    pub lanes: u16,
+}
+
+/// A segment to which nothing is written any more.
+#[derive(Clone, Copy)]
+struct ClosedSegment {
+    segment: u64,
+    /// The greatest moment of its requests.
+    last: u64,
+    bytes: u64,
+    /// None of its spans waits in a shard: told in this segment.
+    settled: Option<u64>,
+}
+
+/// Keeps a ledger's files: writes which spans ended, begins new segments, and removes those that are over.
+#[derive(Drop)]
+pub struct Keeper<R: Files<File = File>> {
+    folder: LedgerFolder<R>,
+    alloc: Global,
+    settings: KeeperSettings,
+    run: u64,
+    segment: u64,
+    notes: Notes,
+    releases: Releases,
+    closed: VecDeque<ClosedSegment>,
+    /// Another handle of each lane's file, to sync it without holding up its lane.
+    open: Vec<File>,
+    /// When the segment under way began, when all was synced last, and when files couldn't be opened last.
+    began: u64,
+    synced: u64,
+    failed: Option<u64>,
+}
+
+impl<R: Files<File = File> + Copy> Keeper<R> {
+    /// Begins a run behind those whose files are in the folder, at this moment. An error: its files can't be made.
+    pub fn begin(
+        alloc: Global,
+        folder: LedgerFolder<R>,
+        earlier: &[FileNumber],
+        ledger: &RequestLedger,
+        settings: KeeperSettings,
+        now: u64,
+        rt: &impl Wait,
+    ) -> io::Result<Self> {
+        let mut run = 0;
+        let mut segment = 0;
+        for number in earlier {
+            run = number.run.max(run);
+            segment = number.segment.max(segment);
+        }
+        let mut keeper = Keeper {
+            folder,
+            alloc,
+            settings,
+            run: run.saturating_add(1),
+            segment,
+            notes: Notes::new(alloc),
+            releases: Releases::new(alloc),
+            closed: VecDeque::new(alloc),
+            open: Vec::new(alloc),
+            began: now,
+            synced: now,
+            failed: None,
+        };
+        keeper.begin_segment(rt, ledger, now)?;
+        Ok(keeper)
+    }
+
+    /// The folder.
+    pub fn folder(&self) -> &LedgerFolder<R> {
+        &self.folder
+    }
+
+    /// Takes what was told, writes it, and does what is due at this moment.
+    pub fn turn<W: Wait>(&mut self, rt: &W, ledger: &RequestLedger, now: u64) {
+        // In this order: what a shard released before it told how it stands is known when that is judged, and so is what was
+        // released before the exporter settled it.
+        let standings = ledger.standings(self.alloc);
+        let settled = ledger.take_settled();
+        let has_noted = self.notes_all(rt, ledger, settled).is_ok();
+        let is_written = self.notes.write().is_ok();
+        let is_broken = !has_noted || !is_written || lacks_file(rt, ledger);
+        if is_broken {
+            self.try_again(rt, ledger, now);
+        } else {
+            self.failed = None;
+            self.sync_if_due(now);
+            if self.is_due(ledger, now) && self.begin_segment(rt, ledger, now).is_err() {
+                self.failed = Some(now);
+            }
+            if let Ok(standings) = standings {
+                self.remove_settled(ledger, &standings);
+            }
+        }
+        let is_full = !has_room(ledger.bytes(), SEGMENT_BYTES / 64, self.settings.max_mib);
+        ledger.shows(self.failed.is_some() || is_broken, is_full);
+    }
+
+    /// Notes what shards told, and what became of so many spans that the exporter took. An error: there is no memory; what
+    /// wasn't noted comes again, or is sent twice after a kill.
+    fn notes_all<W: Wait>(
+        &mut self,
+        rt: &W,
+        ledger: &RequestLedger,
+        settled: u64,
+    ) -> Result<(), AllocError> {
+        for _ in 0..MOST_NEWS {
+            let Some(news) = ledger.take_news(rt) else {
+                break;
+            };
+            self.notes_news(news)?;
+        }
+        for _ in 0..settled {
+            let Some((trace, span)) = ledger.take_pulled(rt) else {
+                break;
+            };
+            self.releases.settled(trace);
+            self.notes.put(&LedgerNote::Handed { trace, span })?;
+        }
+        Ok(())
+    }
+
+    /// Notes what was told.
+    fn notes_news(&mut self, news: LedgerNews) -> Result<(), AllocError> {
+        match news {
+            LedgerNews::Counted {
+                trace,
+                moment,
+                spans,
+            } => self.notes.put(&LedgerNote::Counted {
+                trace,
+                moment,
+                spans,
+            }),
+            LedgerNews::Released { trace, spans } => {
+                self.releases.released(trace, spans, self.segment)
+            }
+            LedgerNews::Again {
+                segment,
+                lane,
+                place,
+            } => self.notes.put(&LedgerNote::Again {
+                segment,
+                lane,
+                place,
+            }),
+        }
+    }
+
+    /// Opens other files in place of those that failed, where the last try was long enough ago.
+    fn try_again<W: Wait>(&mut self, rt: &W, ledger: &RequestLedger, now: u64) {
+        if let Some(failed) = self.failed {
+            if now < failed.saturating_add(TRY_AGAIN) {
+                return;
+            }
+        }
+        self.failed = Some(now);
+        if self.begin_segment(rt, ledger, now).is_ok() && self.notes.write().is_ok() {
+            self.failed = None;
+        }
+    }
+
+    /// Syncs what was written, where that is due.
+    fn sync_if_due(&mut self, now: u64) {
+        let interval = self.settings.sync_interval;
+        if interval == 0 || now < self.synced.saturating_add(interval) {
+            return;
+        }
+        self.synced = now;
+        for file in &self.open {
+            if file.sync_data().is_err() {
+                self.failed = Some(now);
+            }
+        }
+        if self.notes.sync().is_err() {
+            self.failed = Some(now);
+        }
+    }
+
+    /// Whether a new segment is to begin.
+    fn is_due(&self, ledger: &RequestLedger, now: u64) -> bool {
+        let bytes = ledger.open_bytes();
+        let is_old = self.began.saturating_add(SEGMENT_TIME) <= now && 0 < bytes;
+        is_old || SEGMENT_BYTES <= bytes
+    }
+
+    /// The number of a file of the segment under way: that of a lane, or of the notes.
+    fn number(&self, segment: u64, lane: Option<u16>) -> FileNumber {
+        FileNumber {
+            run: self.run,
+            segment,
+            lane,
+        }
+    }
+
+    /// Begins a new segment, in which the lanes go on, and the notes. An error: its files can't be made; then all goes on
+    /// as before.
+    fn begin_segment<W: Wait>(
+        &mut self,
+        rt: &W,
+        ledger: &RequestLedger,
+        now: u64,
+    ) -> io::Result<()> {
+        let segment = self.segment.saturating_add(1);
+        let mut files = Vec::new(self.alloc);
+        let mut open = Vec::new(self.alloc);
+        for lane in 0..self.settings.lanes {
+            let file = self.folder.create(self.number(segment, Some(lane)))?;
+            open.push(file.try_clone()?)?;
+            files.push(file)?;
+        }
+        let notes = self.folder.create(self.number(segment, None))?;
+        self.closed.reserve(1)?;
+        self.sync_open();
+        let last = turn_lanes(rt, ledger, files);
+        self.notes.turn(notes);
+        self.closes(ledger, last);
+        self.open = open;
+        self.segment = segment;
+        self.began = now;
+        Ok(())
+    }
+
+    /// Syncs the files of a segment that ends, where files are synced at all.
+    fn sync_open(&mut self) {
+        if self.settings.sync_interval == 0 {
+            return;
+        }
+        for file in &self.open {
+            let _ = file.sync_data();
+        }
+        let _ = self.notes.sync();
+    }
+
+    /// The segment under way is closed, whose last request came at this moment.
+    fn closes(&mut self, ledger: &RequestLedger, last: u64) {
+        let closed = ClosedSegment {
+            segment: self.segment,
+            last,
+            bytes: ledger.closes(),
+            settled: None,
+        };
+        // Its room was reserved.
+        let _ = self.closed.push_back(closed);
+    }
+
+    /// Removes the segments of which every span has its end, by how the shards stand.
+    fn remove_settled(&mut self, ledger: &RequestLedger, standings: &[ShardStanding]) {
+        let now = self.segment;
+        for closed in self.closed.iter_mut() {
+            if closed.settled.is_none() && is_settled(closed.last, MARGIN, standings) {
+                closed.settled = Some(now);
+            }
+        }
+        while let Some(first) = self.closed.front().copied() {
+            if !self.is_over(&first) || self.remove(&first).is_err() {
+                return;
+            }
+            ledger.removes(first.bytes);
+            self.closed.pop_front();
+        }
+    }
+
+    /// Whether every span of a segment has its end: none waits in a shard, and none is on its way.
+    fn is_over(&self, closed: &ClosedSegment) -> bool {
+        let Some(settled) = closed.settled else {
+            return false;
+        };
+        match self.releases.oldest() {
+            Some(oldest) => settled < oldest,
+            None => true,
+        }
+    }
+
+    /// Removes the files of a segment, and the notes that are of no other.
+    fn remove(&mut self, closed: &ClosedSegment) -> io::Result<()> {
+        for lane in 0..self.settings.lanes {
+            self.folder
+                .remove(self.number(closed.segment, Some(lane)))?;
+        }
+        self.folder.remove(self.number(closed.segment, None))?;
+        Ok(())
+    }
+
+    /// The run is over: all that was told is written. If every span has its end, no file of this run stays.
+    pub fn end<W: Wait>(&mut self, rt: &W, ledger: &RequestLedger, now: u64, has_ended: bool) {
+        self.turn(rt, ledger, now);
+        if !has_ended {
+            self.sync_open();
+            return;
+        }
+        let Ok(files) = self.folder.files() else {
+            return;
+        };
+        for number in files {
+            if number.run == self.run {
+                let _ = self.folder.remove(number);
+            }
+        }
+    }
+}
+
+/// Whether a lane's file failed, and no other was opened since.
+fn lacks_file<W: Wait>(rt: &W, ledger: &RequestLedger) -> bool {
+    for slot in ledger.lanes() {
+        if slot.lock(rt).is_broken() {
+            return true;
+        }
+    }
+    false
+}
+
+/// Each lane goes on in its file of these; the greatest moment of the requests in those before.
+fn turn_lanes<W: Wait>(rt: &W, ledger: &RequestLedger, files: Vec<File>) -> u64 {
+    let mut last = 0;
+    let mut lanes = ledger.lanes().iter();
+    for file in files {
+        if let Some(slot) = lanes.next() {
+            last = slot.lock(rt).turn(file).max(last);
+        }
+    }
+    last
+}

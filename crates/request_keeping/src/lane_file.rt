@@ -1,0 +1,89 @@
+//! The file to which the requests of one lane go.
+use otlp_encoding::Encoding;
+use request_ledger::put_request;
+use span_ids::ConnKey;
+use std::alloc::Global;
+use std::fs::File;
+use std::io;
+use std::io::{ErrorKind, Write};
+use std::mem;
+
+/// The most bytes of a record for which room is kept.
+const ROOM: usize = 1_048_576;
+
+/// The file to which the requests of one lane go now.
+#[derive(Drop)]
+pub struct LaneFile {
+    alloc: Global,
+    /// None: the last write failed, or none was opened yet. Behind a record that may be torn nothing is written.
+    file: Option<File>,
+    buffer: Vec<u8>,
+    /// The greatest moment of its requests, in milliseconds, or 0.
+    last: u64,
+}
+
+impl LaneFile {
+    /// None is open.
+    pub fn none(alloc: Global) -> Self {
+        LaneFile {
+            alloc,
+            file: None,
+            buffer: Vec::new(alloc),
+            last: 0,
+        }
+    }
+
+    /// Whether a write failed, and no other file was opened since.
+    pub fn is_broken(&self) -> bool {
+        self.file.is_none()
+    }
+
+    /// Goes on in another file, and answers the greatest moment of the requests in the one before.
+    pub fn turn(&mut self, file: File) -> u64 {
+        self.file = Some(file);
+        mem::replace(&mut self.last, 0)
+    }
+
+    /// Writes a request behind the others, and answers how many bytes that took. An error: it isn't there whole, and nothing
+    /// more goes to this file.
+    pub fn write(
+        &mut self,
+        connection: ConnKey,
+        moment: u64,
+        encoding: Encoding,
+        text: &[u8],
+        syncs: bool,
+    ) -> io::Result<u64> {
+        let written = self.append(connection, moment, encoding, text, syncs);
+        if written.is_err() {
+            self.file = None;
+        }
+        written
+    }
+
+    fn append(
+        &mut self,
+        connection: ConnKey,
+        moment: u64,
+        encoding: Encoding,
+        text: &[u8],
+        syncs: bool,
+    ) -> io::Result<u64> {
+        let Some(file) = &mut self.file else {
+            return Err(io::Error::from(ErrorKind::NotFound));
+        };
+        self.buffer.clear();
+        put_request(&mut self.buffer, moment, connection, encoding, text)?;
+        // One write, so that a kill leaves all of it or a part that is found to be one.
+        file.write_all(&self.buffer)?;
+        if syncs {
+            file.sync_data()?;
+        }
+        self.last = self.last.max(moment);
+        let bytes = self.buffer.len() as u64;
+        if self.buffer.capacity() > ROOM {
+            self.buffer = Vec::new(self.alloc);
+        }
+        Ok(bytes)
+    }
+}

@@ -1,0 +1,108 @@
+//! Which spans of an earlier run have their end.
+use crate::earlier::PendingRequest;
+use request_ledger::{LedgerSpan, TraceEnd, ended_of};
+use span_ids::{SpanId, TraceId};
+use std::alloc::{AllocError, Global};
+use std::collections::HashMap;
+
+/// A span of a request, by its place among the requests and its number in document order.
+#[derive(Clone, Copy)]
+pub struct SpanPlace {
+    pub trace: TraceId,
+    pub moment: u64,
+    pub request: usize,
+    pub number: usize,
+    pub span: SpanId,
+}
+
+/// Marks in the requests which of these spans have no end, by what was told of their traces.
+pub fn mark_ended(
+    alloc: Global,
+    spans: &mut Vec<SpanPlace>,
+    ends: &HashMap<TraceId, Vec<TraceEnd>>,
+    requests: &mut Vec<PendingRequest>,
+) -> Result<(), AllocError> {
+    // Those of a trace together, as they came; in one moment as they stand in the files.
+    spans.sort_by_key(|place| (place.trace, place.moment, place.request, place.number))?;
+    let mut from = 0;
+    while from < spans.len() {
+        let to = behind_trace(spans, from);
+        mark_trace(alloc, &spans[from..to], ends, requests)?;
+        from = to;
+    }
+    Ok(())
+}
+
+/// The place behind the spans of the trace that begin here.
+fn behind_trace(spans: &[SpanPlace], from: usize) -> usize
+    requires { from < length spans.now }
+    ensures later { from < result }
+    ensures within { result ≤ length spans.now }
+{
+    let mut to = from + 1;
+    while to < spans.len() && spans[to].trace == spans[from].trace {
+        to += 1;
+    }
+    to
+}
+
+/// Marks which of the spans of one trace have no end.
+fn mark_trace(
+    alloc: Global,
+    spans: &[SpanPlace],
+    ends: &HashMap<TraceId, Vec<TraceEnd>>,
+    requests: &mut Vec<PendingRequest>,
+) -> Result<(), AllocError> {
+    let Some(first) = spans.first() else {
+        return Ok(());
+    };
+    let mut kept = Vec::new(alloc);
+    for place in spans {
+        kept.push(LedgerSpan {
+            span: place.span,
+            moment: place.moment,
+        })?;
+    }
+    let mut flags = match ends.get(&first.trace) {
+        Some(told) => ended_of(alloc, &kept, told)?,
+        None => vec![in alloc; false; kept.len()]?,
+    };
+    let is_part = flags.iter().any(|ended| *ended) && flags.iter().any(|ended| !*ended);
+    if is_part {
+        if let Some(told) = ends.get(&first.trace) {
+            flags = ended_of(alloc, &kept, counted_alone(alloc, told)?.as_slice())?;
+        }
+    }
+    mark_flags(spans, &flags, requests);
+    Ok(())
+}
+
+/// Of what was told of a trace, how many of its spans were counted. So a trace of which some spans were handed over and
+/// others not is sent again whole, and decided on all of its spans: better twice than by a part of them.
+fn counted_alone(alloc: Global, told: &[TraceEnd]) -> Result<Vec<TraceEnd>, AllocError> {
+    let mut counted = Vec::new(alloc);
+    for end in told {
+        if let TraceEnd::Counted { .. } = end {
+            counted.push(*end)?;
+        }
+    }
+    Ok(counted)
+}
+
+/// Marks the spans that have no end in their requests.
+fn mark_flags(spans: &[SpanPlace], ended: &[bool], requests: &mut Vec<PendingRequest>) {
+    let mut flags = ended.iter();
+    for place in spans {
+        let is_over = flags.next().copied().unwrap_or(false);
+        let Some(request) = requests.get_mut(place.request) else {
+            continue;
+        };
+        if is_over {
+            continue;
+        }
+        if let Some(pending) = request.pending.get_mut(place.number) {
+            *pending = true;
+            request.spans = request.spans.saturating_add(1);
+        }
+    }
+}
