@@ -9,7 +9,7 @@ use Rattle.httparse.specs.Grammar.{is_token_byte}
 use Rattle.http1.specs.Text.{eq_ignore_case}
 use Rattle.config_faults.specs.Composites.{is_order}
 use Rattle.config_faults.specs.Exports.{is_endpoint}
-use Rattle.config_faults.specs.Faults.{config_fault_number, each_setting_fault, cache_fault, rows_fault, twice_fault}
+use Rattle.config_faults.specs.Faults.{config_fault_number, each_setting_fault, cache_fault, ledger_fault, rows_fault, twice_fault}
 use Rattle.config_faults.specs.Headers.{may_be_sent}
 use Rattle.config_faults.specs.PolicyTypes.{all_types, type_name}
 use Rattle.config_faults.specs.Keys.{is_key, is_setting, type_named}
@@ -59,16 +59,26 @@ cache_ranges =
     ∷ record { key = codes "non_sampled_cache_size"; below = negsuc 0; lowest = 0; greatest = 1000000; above = 1000001 }
     ∷ []
 
+-- those of the table `ledger`
+abbrev pub ledger_ranges : List Range
+ledger_ranges =
+    record { key = codes "sync_interval_ms"; below = pos 0; lowest = 1; greatest = 60000; above = 60001 }
+    ∷ record { key = codes "max_mib"; below = pos 0; lowest = 1; greatest = 1048576; above = 1048577 }
+    ∷ []
+
 -- a table with one key
 abbrev pub one_key : List ℕ → ℤ → Members
 one_key key number = member key (integer number) no_members
 
--- the fault of a number at a key, and of one at a key of `decision_cache`
+-- the fault of a number at a key, of one at a key of `decision_cache`, and of one at a key of `ledger` beside a path
 abbrev fault_at : List ℕ → ℤ → Option ConfigFault
 fault_at key number = each_setting_fault top_settings (one_key key number)
 
 abbrev cache_fault_at : List ℕ → ℤ → Option ConfigFault
 cache_fault_at key number = cache_fault (table (one_key key number))
+
+abbrev ledger_fault_at : List ℕ → ℤ → Option ConfigFault
+ledger_fault_at key number = ledger_fault (table (member (codes "path") (string (codes "d")) (one_key key number)))
 
 abbrev each : {A : Type 0} → A → List Range → List A
 each a rows = map (λ row. a) rows
@@ -100,6 +110,22 @@ cache_below_refused = refl
 cache_above_refused : map (λ (r : Range). cache_fault_at r.key (pos r.above)) cache_ranges ≡ each (Some OutOfRange) cache_ranges
 unfolding is_key
 cache_above_refused = refl
+
+ledger_lowest_allowed : map (λ (r : Range). ledger_fault_at r.key (pos r.lowest)) ledger_ranges ≡ each None ledger_ranges
+unfolding is_key
+ledger_lowest_allowed = refl
+
+ledger_greatest_allowed : map (λ (r : Range). ledger_fault_at r.key (pos r.greatest)) ledger_ranges ≡ each None ledger_ranges
+unfolding is_key
+ledger_greatest_allowed = refl
+
+ledger_below_refused : map (λ (r : Range). ledger_fault_at r.key r.below) ledger_ranges ≡ each (Some OutOfRange) ledger_ranges
+unfolding is_key
+ledger_below_refused = refl
+
+ledger_above_refused : map (λ (r : Range). ledger_fault_at r.key (pos r.above)) ledger_ranges ≡ each (Some OutOfRange) ledger_ranges
+unfolding is_key
+ledger_above_refused = refl
 
 -- ---- choices
 
@@ -169,6 +195,29 @@ encoding_keys : is_key table_is.Export (codes "encoding") ∷ is_key table_is.Co
     ≡ true ∷ false ∷ true ∷ false ∷ []
 unfolding is_key
 encoding_keys = refl
+
+-- when the ledger is synced: one of three texts, or nothing; another text, an empty one, one of another key, and values of
+-- another type
+abbrev synced : Data → Data
+synced value = table (member (codes "path") (string (codes "d")) (member (codes "sync") value no_members))
+
+ledger_syncs : map ledger_fault (table (one_text (codes "path") (codes "d")) ∷ synced (string (codes "none")) ∷ synced (string (codes "interval")) ∷ synced (string (codes "request"))
+    ∷ synced (string (codes "Request")) ∷ synced (string []) ∷ synced (string (codes "discard")) ∷ synced (boolean true) ∷ synced (integer (pos 1)) ∷ [])
+    ≡ None ∷ None ∷ None ∷ None ∷ Some OutOfRange ∷ Some OutOfRange ∷ Some OutOfRange ∷ Some WrongType ∷ Some WrongType ∷ []
+unfolding is_key
+ledger_syncs = refl
+
+-- a folder is wanted, which may be none; a table without one, one of another type, no table, and a key that isn't its own
+ledger_folders : map ledger_fault (table (one_text (codes "path") []) ∷ table no_members ∷ table (one_text (codes "sync") (codes "none")) ∷ table (member (codes "path") (integer (pos 1)) no_members) ∷ string (codes "d")
+    ∷ table (member (codes "path") (string (codes "d")) (one_text (codes "output") (codes "o"))) ∷ [])
+    ≡ None ∷ Some MissingKey ∷ Some MissingKey ∷ Some WrongType ∷ Some WrongType ∷ Some UnknownKey ∷ []
+unfolding is_key
+ledger_folders = refl
+
+ledger_keys : is_key table_is.Ledger (codes "sync") ∷ is_key table_is.Config (codes "sync") ∷ is_key table_is.Config (codes "ledger") ∷ is_key table_is.Ledger (codes "output") ∷ is_key table_is.Export (codes "max_mib") ∷ []
+    ≡ true ∷ false ∷ true ∷ false ∷ false ∷ []
+unfolding is_key
+ledger_keys = refl
 
 choice_keys : map (is_key table_is.Config) (codes "queue_full" ∷ codes "output_fault" ∷ codes "double_values" ∷ codes "close_at_end_of_input" ∷ codes "record_policy" ∷ codes "queue" ∷ []) ≡ true ∷ true ∷ true ∷ true ∷ true ∷ false ∷ []
 unfolding is_key

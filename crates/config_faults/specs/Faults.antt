@@ -9,7 +9,7 @@ use Rattle.config_faults.specs.Composites.{is_ordered}
 use Rattle.config_faults.specs.Percentages.{percentage_of}
 use Rattle.config_faults.specs.Exports.{is_endpoint}
 use Rattle.config_faults.specs.Headers.{may_be_sent}
-use Rattle.config_faults.specs.Tables.{number_row, ChoiceRow, choice_row, top_settings, cache_settings, export_settings}
+use Rattle.config_faults.specs.Tables.{number_row, ChoiceRow, choice_row, top_settings, cache_settings, export_settings, ledger_settings}
 use Rattle.config_faults.specs.Keys.{has_unknown_key, type_of, type_at, code_of, join_type, join_name, sub_key, join_at}
 use Rattle.policy_tree.specs.declared.policy.Join.{Join}
 use Rattle.policy_tree.specs.declared.policy.Join.TheVariants as join_is
@@ -116,6 +116,15 @@ abbrev pub output_fault_fault : Data → Option ConfigFault
 output_fault_fault (string text) = if is_output_fault text then None else Some OutOfRange
 output_fault_fault _ = Some WrongType
 
+-- when the ledger of requests is synced
+abbrev pub is_ledger_sync : (text : List ℕ) → Bool
+is_ledger_sync text = bytes_eq text (codes "none") || (bytes_eq text (codes "interval") || bytes_eq text (codes "request"))
+
+-- one of them is wanted
+abbrev pub ledger_sync_fault : Data → Option ConfigFault
+ledger_sync_fault (string text) = if is_ledger_sync text then None else Some OutOfRange
+ledger_sync_fault _ = Some WrongType
+
 -- what an error of a condition does
 abbrev pub is_error_mode : (text : List ℕ) → Bool
 is_error_mode text = bytes_eq text (codes "ignore") || (bytes_eq text (codes "silent") || bytes_eq text (codes "propagate"))
@@ -190,6 +199,7 @@ wanted_fault value_is.PolicyType = type_fault
 wanted_fault (value_is.Choice key) = choice_fault (choice_row key)
 wanted_fault value_is.LogForm = log_fault
 wanted_fault value_is.OutputFault = output_fault_fault
+wanted_fault value_is.LedgerSync = ledger_sync_fault
 wanted_fault value_is.ErrorMode = error_mode_fault
 wanted_fault value_is.Percentage = percentage_fault
 wanted_fault (value_is.Array kind) = array_fault (item_fault kind)
@@ -296,6 +306,10 @@ cache_fault value = table_of_fault table_is.DecisionCache cache_settings value
 abbrev pub export_fault : Data → Option ConfigFault
 export_fault value = table_of_fault table_is.Export export_settings value
 
+-- the settings of `ledger` are wanted
+abbrev pub ledger_fault : Data → Option ConfigFault
+ledger_fault value = table_of_fault table_is.Ledger ledger_settings value
+
 -- both names of the wait from a trace's root on stand there
 unfoldable pub twice_fault : Members → Option ConfigFault
 twice_fault members =
@@ -309,7 +323,8 @@ keys_fault members = least (unknown_fault table_is.Config members) (twice_fault 
 abbrev pub tables_fault : Members → Option ConfigFault
 tables_fault members =
     least (optional cache_fault (get_member (codes "decision_cache") members))
-    (least (optional export_fault (get_member (codes "export") members)) (required policies_fault (get_member (codes "policies") members)))
+    (least (optional export_fault (get_member (codes "export") members))
+    (least (optional ledger_fault (get_member (codes "ledger") members)) (required policies_fault (get_member (codes "policies") members))))
 
 -- the rows of the whole table
 unfoldable pub table_fault : Members → Option ConfigFault

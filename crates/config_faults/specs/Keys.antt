@@ -1,10 +1,10 @@
 -- The keys of each kind of table, and the texts that `type` and `status_codes` take.
-use Rattle.std.specs.Prelude.{ℕ, ℤ, pos, Bool, true, false, not, ◌&&◌, ◌||◌, List, [], ◌∷◌, codes, Option, Some, None, option_and_then, if◌then◌else◌}
+use Rattle.std.specs.Prelude.{ℕ, ℤ, pos, Bool, false, not, ◌&&◌, ◌||◌, List, [], ◌∷◌, codes, Option, Some, None, option_and_then, if◌then◌else◌}
 use Rattle.std.specs.List.{list_any}
 use Rattle.std.specs.Str.{bytes_eq}
 use Rattle.config_faults.specs.Setting.{Setting}
 use Rattle.config_faults.specs.PolicyTypes.{settings, type_name, has_settings, all_types}
-use Rattle.config_faults.specs.Tables.{top_settings, cache_settings, export_settings}
+use Rattle.config_faults.specs.Tables.{top_settings, cache_settings, export_settings, ledger_settings}
 use Rattle.toml.specs.Data.{Data, as_str, Members, no_members, member, get_member}
 use Rattle.policy_tree.specs.declared.policy.Join.{Join}
 use Rattle.policy_tree.specs.declared.policy.Join.TheVariants as join_is
@@ -31,13 +31,14 @@ is_setting kind key = has_key (settings kind) key || is_sub_key kind key
 
 -- the tables of a configuration
 abbrev pub is_table_key : List ℕ → Bool
-is_table_key key = bytes_eq key (codes "decision_cache") || bytes_eq key (codes "policies") || bytes_eq key (codes "export")
+is_table_key key = bytes_eq key (codes "decision_cache") || bytes_eq key (codes "policies") || bytes_eq key (codes "export") || bytes_eq key (codes "ledger")
 
 -- the keys of a table of this kind
 unfoldable pub is_key : TableKind → List ℕ → Bool
 is_key table_is.Config key = has_key top_settings key || is_table_key key
 is_key table_is.DecisionCache key = has_key cache_settings key
 is_key table_is.Export key = has_key export_settings key
+is_key table_is.Ledger key = has_key ledger_settings key
 is_key (table_is.Policy kind) key = bytes_eq key (codes "name") || bytes_eq key (codes "type") || has_settings kind && bytes_eq key (type_name kind)
 is_key (table_is.Settings kind) key = is_setting kind key
 is_key table_is.Allocation key = bytes_eq key (codes "policy") || bytes_eq key (codes "percent")

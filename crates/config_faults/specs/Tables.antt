@@ -22,7 +22,7 @@ pub record NumberRow : Type 0 where
   pub lowest : ℕ
   pub greatest : ℕ
 
--- the table of the keys of whole numbers, those within `decision_cache` and `export` too
+-- the table of the keys of whole numbers, those within `decision_cache`, `export` and `ledger` too
 abbrev pub number_row : NumberKey → NumberRow
 number_row number_is.DecisionWait = record { name = codes "decision_wait_ms"; default = 30000; lowest = 1; greatest = 3600000 }
 number_row number_is.RootWait = record { name = codes "root_wait_ms"; default = 0; lowest = 0; greatest = 3600000 }
@@ -51,6 +51,8 @@ number_row number_is.RetryMax = record { name = codes "retry_max_ms"; default = 
 number_row number_is.RetryFor = record { name = codes "retry_for_ms"; default = 300000; lowest = 0; greatest = 86400000 }
 number_row number_is.CloseWait = record { name = codes "close_wait_ms"; default = 10000; lowest = 0; greatest = 3600000 }
 number_row number_is.QueueBatches = record { name = codes "queue_batches"; default = 256; lowest = 1; greatest = 65536 }
+number_row number_is.SyncInterval = record { name = codes "sync_interval_ms"; default = 1000; lowest = 1; greatest = 60000 }
+number_row number_is.LedgerMax = record { name = codes "max_mib"; default = 1024; lowest = 1; greatest = 1048576 }
 
 -- what a key of one of two texts has: its name, its default, and the other text
 pub record ChoiceRow : Type 0 where
@@ -69,7 +71,7 @@ pub record TextRow : Type 0 where
   pub name : List ℕ
   pub default : List ℕ
 
--- the table of the keys of texts that have a default
+-- the table of the keys of texts that have a default, that within `ledger` too
 abbrev pub text_row : TextKey → TextRow
 text_row text_is.Listen = record { name = codes "listen"; default = codes "127.0.0.1:4318" }
 text_row text_is.Metrics = record { name = codes "metrics"; default = [] }
@@ -78,6 +80,7 @@ text_row text_is.Decisions = record { name = codes "decisions"; default = [] }
 text_row text_is.Record = record { name = codes "record"; default = [] }
 text_row text_is.OutputFault = record { name = codes "output_fault"; default = codes "discard" }
 text_row text_is.Log = record { name = codes "log"; default = codes "text" }
+text_row text_is.LedgerSync = record { name = codes "sync"; default = codes "none" }
 
 -- the program's default
 abbrev pub default_of : DefaultValue → Data
@@ -109,6 +112,10 @@ log_setting key = defaulted (text_row key).name value_is.LogForm (string (text_r
 -- of what is done once the output fails
 abbrev pub output_fault_setting : TextKey → Setting
 output_fault_setting key = defaulted (text_row key).name value_is.OutputFault (string (text_row key).default)
+
+-- of when the ledger of requests is synced
+abbrev pub ledger_sync_setting : TextKey → Setting
+ledger_sync_setting key = defaulted (text_row key).name value_is.LedgerSync (string (text_row key).default)
 
 -- of one of two names of a number, of which neither has a default of its own
 abbrev pub root_setting : NumberKey → Setting
@@ -179,4 +186,14 @@ export_settings =
     ∷ switch (codes "lines")
     ∷ choice_setting choice_is.Encoding
     ∷ optional (codes "headers") value_is.Headers
+    ∷ []
+
+-- those of `ledger`: the folder in which requests wait, when its files are synced, the time between two syncs in
+-- milliseconds, and how many mebibytes it has at most
+abbrev pub ledger_settings : List Setting
+ledger_settings =
+    required (codes "path") value_is.Text
+    ∷ ledger_sync_setting text_is.LedgerSync
+    ∷ number_setting number_is.SyncInterval
+    ∷ number_setting number_is.LedgerMax
     ∷ []

@@ -10,7 +10,7 @@ use crate::keys::{TableKind, member, unknown_fault};
 use crate::policy_faults::policies_fault;
 use crate::settings::Setting;
 use crate::settings_faults::{each_setting_fault, table_of_fault};
-use crate::tables::{NumberKey, cache_settings, export_settings, top_settings};
+use crate::tables::{NumberKey, cache_settings, export_settings, ledger_settings, top_settings};
 use toml::Table;
 
 /// The least fault of the table of a configuration, up to 5. It takes no memory.
@@ -56,7 +56,11 @@ fn tables_fault(table: &Table) -> Option<ConfigFault>
         &cache_settings(),
     );
     let export = inner_fault(table, "export", TableKind::Export, &export_settings());
-    least(cache, least(export, required_policies_fault(table)))
+    let ledger = inner_fault(table, "ledger", TableKind::Ledger, &ledger_settings());
+    least(
+        cache,
+        least(export, least(ledger, required_policies_fault(table))),
+    )
 }
 
 /// The fault of what stands at a key, where a table of this kind with these settings may.

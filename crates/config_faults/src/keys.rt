@@ -10,7 +10,7 @@ ghost use Rattle.config_faults.specs.Tables.{setting_of, top_settings as setting
 use crate::fault::ConfigFault;
 use crate::policy_types::PolicyType;
 use crate::settings::Setting;
-use crate::tables::{cache_settings, export_settings, top_settings};
+use crate::tables::{cache_settings, export_settings, ledger_settings, top_settings};
 use toml::{Table, Value};
 
 /// The kinds of table in a configuration, each with keys of its own.
@@ -22,6 +22,8 @@ pub enum TableKind {
     DecisionCache,
     /// Where the lines are sent to.
     Export,
+    /// Where requests wait that are to outlive the process.
+    Ledger,
     /// A policy.
     Policy(PolicyType),
     /// The settings of a policy of this type.
@@ -74,7 +76,7 @@ fn is_top_setting(key: &str) -> bool
 fn is_table_key(key: &str) -> bool
     ensures { result ≡ spec.is_table_key key.now }
 {
-    matches!(key, "decision_cache" | "policies" | "export")
+    matches!(key, "decision_cache" | "policies" | "export" | "ledger")
 }
 
 /// Whether a table of this kind has this key.
@@ -86,6 +88,7 @@ pub fn is_key(kind: TableKind, key: &str) -> bool
         TableKind::Config => { is_top_setting(key) || is_table_key(key) }
         TableKind::DecisionCache => has_key(&cache_settings(), key),
         TableKind::Export => has_key(&export_settings(), key),
+        TableKind::Ledger => has_key(&ledger_settings(), key),
         TableKind::Policy(kind) => {
             matches!(key, "name" | "type") || has_settings(kind) && key == kind.name()
         }

@@ -3,8 +3,8 @@
 //! "send_batch_size"; the other keys are this project's own).
 //!
 //! A setting is one row, of its key, what its value is to be, and its default: of a configuration in
-//! [`top_settings`], [`cache_settings`] and [`export_settings`], of a type of policy in [`PolicyType::settings`]. Which
-//! keys a table has, and its faults, are told by these rows. No function takes memory.
+//! [`top_settings`], [`cache_settings`], [`export_settings`] and [`ledger_settings`], of a type of policy in
+//! [`PolicyType::settings`]. Which keys a table has, and its faults, are told by these rows. No function takes memory.
 //!
 //! ```
 //! let table = toml::table_from_str(alloc, "lanes = 65")?;
@@ -35,4 +35,6 @@ pub use percentages::percentage_of;
 pub use policy_types::PolicyType;
 pub use settings::{DefaultValue, ItemKind, Setting, ValueKind};
 pub use settings_faults::{item_fault, value_fault};
-pub use tables::{ChoiceKey, NumberKey, TextKey, cache_settings, export_settings, top_settings};
+pub use tables::{
+    ChoiceKey, NumberKey, TextKey, cache_settings, export_settings, ledger_settings, top_settings,
+};

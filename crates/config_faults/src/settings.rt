@@ -34,6 +34,8 @@ pub enum ValueKind {
     LogForm,
     /// A text that names what is done once the output fails: `discard`, `stop` or `retry`.
     OutputFault,
+    /// A text that names when the ledger of requests is synced: `none`, `interval` or `request`.
+    LedgerSync,
     /// A text that names what an error of a condition does: `ignore`, `silent` or `propagate`.
     ErrorMode,
     /// A whole number from 0 to 100, or a number between with at most four decimals.

@@ -145,6 +145,7 @@ pub fn value_fault(value: &Value, wanted: ValueKind) -> Option<ConfigFault>
         (ValueKind::Choice(key), Value::String(text)) => choice_fault(key, text.as_str()),
         (ValueKind::LogForm, Value::String(text)) => log_fault(text.as_str()),
         (ValueKind::OutputFault, Value::String(text)) => output_fault_fault(text.as_str()),
+        (ValueKind::LedgerSync, Value::String(text)) => ledger_sync_fault(text.as_str()),
         (ValueKind::ErrorMode, Value::String(text)) => error_mode_fault(text.as_str()),
         (ValueKind::Endpoint, Value::String(text)) => {
             if is_endpoint(text.as_bytes()) {
@@ -182,6 +183,16 @@ fn output_fault_fault(text: &str) -> Option<ConfigFault>
 {
     match text {
         "discard" | "stop" | "retry" => None,
+        _ => Some(ConfigFault::OutOfRange),
+    }
+}
+
+/// The fault that a text doesn't name when the ledger of requests is synced.
+fn ledger_sync_fault(text: &str) -> Option<ConfigFault>
+    ensures { result ≡ spec.ledger_sync_fault (string text.now) }
+{
+    match text {
+        "none" | "interval" | "request" => None,
         _ => Some(ConfigFault::OutOfRange),
     }
 }

@@ -4,7 +4,7 @@ ghost use Rattle.config_faults.specs.Tables as spec;
 
 use crate::settings::{DefaultValue, Setting, ValueKind};
 
-/// The keys whose value is a whole number, those within `decision_cache` and `export` too.
+/// The keys whose value is a whole number, those within `decision_cache`, `export` and `ledger` too.
 #[derive(Clone, Copy)]
 pub enum NumberKey {
     DecisionWait,
@@ -35,6 +35,9 @@ pub enum NumberKey {
     RetryFor,
     CloseWait,
     QueueBatches,
+    /// Of `ledger`, as that which follows.
+    SyncInterval,
+    LedgerMax,
 }
 
 impl NumberKey {
@@ -72,6 +75,8 @@ impl NumberKey {
             NumberKey::RetryFor => ("retry_for_ms", 300_000, 0, 86_400_000),
             NumberKey::CloseWait => ("close_wait_ms", 10_000, 0, 3_600_000),
             NumberKey::QueueBatches => ("queue_batches", 256, 1, 65_536),
+            NumberKey::SyncInterval => ("sync_interval_ms", 1000, 1, 60_000),
+            NumberKey::LedgerMax => ("max_mib", 1024, 1, 1_048_576),
         }
     }
 }
@@ -100,7 +105,7 @@ impl ChoiceKey {
     }
 }
 
-/// The keys whose value is a text that has a default.
+/// The keys whose value is a text that has a default, that within `ledger` too.
 #[derive(Clone, Copy)]
 pub enum TextKey {
     Listen,
@@ -110,6 +115,8 @@ pub enum TextKey {
     Record,
     OutputFault,
     Log,
+    /// Of `ledger`.
+    LedgerSync,
 }
 
 impl TextKey {
@@ -126,6 +133,7 @@ impl TextKey {
             TextKey::Record => ("record", ""),
             TextKey::OutputFault => ("output_fault", "discard"),
             TextKey::Log => ("log", "text"),
+            TextKey::LedgerSync => ("sync", "none"),
         }
     }
 }
@@ -199,6 +207,18 @@ pub fn export_settings() -> [Setting; 10]
     ]
 }
 
+/// The settings of `ledger`.
+pub fn ledger_settings() -> [Setting; 4]
+    ensures { map spec.setting_of result ≡ spec.ledger_settings }
+{
+    [
+        Setting::Required("path", ValueKind::Text),
+        ledger_sync_setting(TextKey::LedgerSync),
+        number_setting(NumberKey::SyncInterval),
+        number_setting(NumberKey::LedgerMax),
+    ]
+}
+
 fn number_setting(key: NumberKey) -> Setting
     ensures { spec.setting_of result ≡ spec.number_setting key }
 {
@@ -243,4 +263,11 @@ fn output_fault_setting(key: TextKey) -> Setting
 {
     let (name, _) = key.row();
     Setting::Default(name, ValueKind::OutputFault, DefaultValue::Text(key))
+}
+
+fn ledger_sync_setting(key: TextKey) -> Setting
+    ensures { spec.setting_of result ≡ spec.ledger_sync_setting key }
+{
+    let (name, _) = key.row();
+    Setting::Default(name, ValueKind::LedgerSync, DefaultValue::Text(key))
 }

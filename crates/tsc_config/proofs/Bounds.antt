@@ -8,12 +8,12 @@ use Rattle.policy_tree.specs.declared.policy.Join.{Join}
 use Rattle.policy_tree.specs.declared.policy.Join.TheVariants as join_is
 use Rattle.config_faults.specs.Composites.{is_ordered}
 use Rattle.config_faults.specs.Percentages.{percentage_of}
-use Rattle.config_faults.specs.Tables.{ChoiceRow, choice_row, top_settings, cache_settings, export_settings}
+use Rattle.config_faults.specs.Tables.{ChoiceRow, choice_row, top_settings, cache_settings, export_settings, ledger_settings}
 use Rattle.config_faults.specs.Exports.{is_endpoint}
 use Rattle.config_faults.specs.Headers.{may_be_sent}
 use Rattle.config_faults.specs.PolicyTypes.{type_name, settings as spec_settings}
 use Rattle.config_faults.specs.Keys.{has_unknown_key, type_at, type_of, code_of, join_type, join_name, sub_key, join_at}
-use Rattle.config_faults.specs.Faults.{config_fault_number, least, optional, required, unknown_fault, integer_fault, whole_fault, truth_fault, text_fault, choice_fault, is_log_form, log_fault, is_output_fault, is_error_mode, output_fault_fault, error_mode_fault, type_fault, code_fault, percentage_fault, named_fault, items_fault, array_fault, item_fault, wanted_fault, each_setting_fault}
+use Rattle.config_faults.specs.Faults.{config_fault_number, least, optional, required, unknown_fault, integer_fault, whole_fault, truth_fault, text_fault, choice_fault, is_log_form, log_fault, is_output_fault, is_ledger_sync, is_error_mode, output_fault_fault, ledger_sync_fault, error_mode_fault, type_fault, code_fault, percentage_fault, named_fault, items_fault, array_fault, item_fault, wanted_fault, each_setting_fault}
 use Rattle.config_faults.specs.Faults as spec
 use Rattle.std.specs.Option.{is_some}
 use Rattle.config_faults.specs.Setting.{Setting}
@@ -94,6 +94,10 @@ output_faults : (value : Data) → IsSmall (output_fault_fault value)
 output_faults (string text) = either (is_output_fault text) _ _ none (only OutOfRange (omega arith))
 output_faults _ = wrong
 
+ledger_syncs : (value : Data) → IsSmall (ledger_sync_fault value)
+ledger_syncs (string text) = either (is_ledger_sync text) _ _ none (only OutOfRange (omega arith))
+ledger_syncs _ = wrong
+
 error_modes : (value : Data) → IsSmall (error_mode_fault value)
 error_modes (string text) = either (is_error_mode text) _ _ none (only OutOfRange (omega arith))
 error_modes _ = wrong
@@ -169,6 +173,7 @@ values value_is.PolicyType value = types value
 values (value_is.Choice key) value = choices (choice_row key) value
 values value_is.LogForm value = log_forms value
 values value_is.OutputFault value = output_faults value
+values value_is.LedgerSync value = ledger_syncs value
 values value_is.ErrorMode value = error_modes value
 values value_is.Percentage value = percentages value
 values (value_is.Array kind) value = arrays (item_fault kind) (items kind) value
@@ -243,7 +248,8 @@ table_small members =
     (both _ _ (each top_settings members)
     (both _ _ (optionally spec.cache_fault (tables table_is.DecisionCache cache_settings) (get_member (codes "decision_cache") members))
     (both _ _ (optionally spec.export_fault (tables table_is.Export export_settings) (get_member (codes "export") members))
-    (requiredly spec.policies_fault policies (get_member (codes "policies") members)))))
+    (both _ _ (optionally spec.ledger_fault (tables table_is.Ledger ledger_settings) (get_member (codes "ledger") members))
+    (requiredly spec.policies_fault policies (get_member (codes "policies") members))))))
 
 -- so it isn't that an expression is too big
 pub table_not_big : (members : Members) (fault : ConfigFault) → spec.table_fault members ≡ Some fault → fault ≡ ExpressionTooBig → ⊥

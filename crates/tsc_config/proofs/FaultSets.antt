@@ -6,12 +6,12 @@ use Rattle.std.specs.Str.{bytes_eq}
 use Rattle.toml.specs.Data.{Data, array, table, Items, no_items, item, Members, no_members, member, get_member}
 use Rattle.policy_tree.specs.declared.policy.Join.{Join}
 use Rattle.policy_tree.specs.declared.policy.Join.TheVariants as join_is
-use Rattle.config_faults.specs.Tables.{top_settings, cache_settings, export_settings}
+use Rattle.config_faults.specs.Tables.{top_settings, cache_settings, export_settings, ledger_settings}
 use Rattle.config_faults.specs.PolicyTypes.{type_name, settings}
 use Rattle.config_faults.specs.Keys.{type_at, join_type, join_name, sub_key, join_at}
 use Rattle.config_faults.specs.Faults.{config_fault_number, least, optional, required, unknown_fault, text_fault, type_fault, items_fault, array_fault, item_fault, wanted_fault, each_setting_fault, order_fault, twice_fault}
 use Rattle.config_faults.specs.Faults as spec
-use Rattle.tsc_config.specs.FaultSets.{IsLeastOf, OptionalHas, RequiredHas, SomeItemHas, ArrayHas, ValueHas, KeyHas, SomeSettingHas, TableHas, RowsHave, SettingsHave, SettingsAtHave, TypedHas, PolicyTableHas, PoliciesHave, SomePolicyHas, PolicyHas, PartsHave, PartsSettingsHave, SubPoliciesHave, SubValueHas, CacheHas, ExportHas, HasFault}
+use Rattle.tsc_config.specs.FaultSets.{IsLeastOf, OptionalHas, RequiredHas, SomeItemHas, ArrayHas, ValueHas, KeyHas, SomeSettingHas, TableHas, RowsHave, SettingsHave, SettingsAtHave, TypedHas, PolicyTableHas, PoliciesHave, SomePolicyHas, PolicyHas, PartsHave, PartsSettingsHave, SubPoliciesHave, SubValueHas, CacheHas, ExportHas, LedgerHas, HasFault}
 use Rattle.config_faults.specs.Setting.{Setting}
 use Rattle.config_faults.specs.declared.settings.ValueKind.{ValueKind}
 use Rattle.config_faults.specs.declared.settings.ValueKind.TheVariants as value_is
@@ -204,9 +204,12 @@ table_least members =
     optional_least CacheHas spec.cache_fault (table_of_least table_is.DecisionCache cache_settings) (get_member (codes "decision_cache") members) in
     let export : IsLeastOf (OptionalHas ExportHas (get_member (codes "export") members)) (optional spec.export_fault (get_member (codes "export") members)) =
     optional_least ExportHas spec.export_fault (table_of_least table_is.Export export_settings) (get_member (codes "export") members) in
+    let ledger : IsLeastOf (OptionalHas LedgerHas (get_member (codes "ledger") members)) (optional spec.ledger_fault (get_member (codes "ledger") members)) =
+    optional_least LedgerHas spec.ledger_fault (table_of_least table_is.Ledger ledger_settings) (get_member (codes "ledger") members) in
     let policies : IsLeastOf (RequiredHas PoliciesHave (get_member (codes "policies") members)) (required spec.policies_fault (get_member (codes "policies") members)) =
     required_least PoliciesHave spec.policies_fault policies_least (get_member (codes "policies") members) in
     both (λ fault. (unknown_fault table_is.Config members ≡ Some fault) ⊎ (twice_fault members ≡ Some fault)) _ _ _ (rows _ _)
     (both (SomeSettingHas top_settings members) _ _ _ (each_least top_settings members)
     (both (OptionalHas CacheHas (get_member (codes "decision_cache") members)) _ _ _ cache
-    (both (OptionalHas ExportHas (get_member (codes "export") members)) (RequiredHas PoliciesHave (get_member (codes "policies") members)) _ _ export policies)))
+    (both (OptionalHas ExportHas (get_member (codes "export") members)) _ _ _ export
+    (both (OptionalHas LedgerHas (get_member (codes "ledger") members)) (RequiredHas PoliciesHave (get_member (codes "policies") members)) _ _ ledger policies))))

@@ -434,7 +434,7 @@ sound (Some _) e = cc
 
 whole : (members : Members) → table_fault members ≡ None → HasPolicies members (policies_of (get_member (codes "policies") members))
 whole members e =
-    let p = sound (get_member (codes "policies") members) (table_parts members e).3 in
+    let p = sound (get_member (codes "policies") members) (table_parts members e).4 in
     let items : Items = items_of (get_member (codes "policies") members) in record {
       as_many = ap length p.1 ∙ as_many items p.0;
       each = λ place deeper policy h.

@@ -3,7 +3,7 @@
 -- table below repeats no definition.
 use Rattle.std.specs.Prelude.{◌≡◌, ℕ, ℤ, pos, Bool, true, false, List, [], ◌∷◌, map, length, codes, Option, Some, None, refl}
 use Rattle.toml.specs.Data.{Data, string, integer, boolean, array, table, Items, no_items, item, Members, no_members, member}
-use Rattle.config_faults.proofs.Rows.{Range, ranges, cache_ranges, one_key, one_text, matching}
+use Rattle.config_faults.proofs.Rows.{Range, ranges, cache_ranges, ledger_ranges, one_key, one_text, matching}
 use Rattle.config_faults.specs.declared.policy_types.PolicyType.TheVariants as type_is
 use Rattle.policy_tree.specs.declared.limit.Limit.TheVariants.{Bytes}
 use Rattle.policy_tree.specs.declared.policy.Leaf.TheVariants as leaf_is
@@ -16,12 +16,13 @@ use Rattle.tsc_config.specs.declared.log_form.LogForm.TheVariants as log_is
 use Rattle.tsc_config.specs.declared.output_fault.OutputFault.TheVariants as output_is
 use Rattle.tsc_config.specs.declared.exports.Export.{Export}
 use Rattle.tsc_config.specs.declared.exports.ExportEncoding.TheVariants as encoding_is
+use Rattle.tsc_config.specs.declared.ledger.LedgerSync.TheVariants as sync_is
 
--- the numbers of a configuration: those of the table, and of `decision_cache`
+-- the numbers of a configuration: those of the table, of `decision_cache` and of `ledger`
 abbrev numbers_of : Config → List ℕ
 numbers_of c =
     c.decision_wait ∷ c.root_wait ∷ c.num_traces ∷ c.lanes ∷ c.shards ∷ c.queue_capacity ∷ c.export_capacity ∷ c.send_batch_size ∷ c.max_connections ∷ c.memory_limit_mib ∷ c.max_request_mib ∷ c.maximum_trace_size ∷ c.tick ∷ c.output_max_mib ∷ c.output_keep ∷ c.decisions_max_mib ∷ c.record_max_mib
-    ∷ c.sampled_cache_size ∷ c.non_sampled_cache_size ∷ []
+    ∷ c.sampled_cache_size ∷ c.non_sampled_cache_size ∷ c.ledger.sync_interval_ms ∷ c.ledger.max_mib ∷ []
 
 -- a table with all keys, each with one of its numbers
 abbrev members_of : (Range → ℕ) → List Range → Members → Members
@@ -29,9 +30,9 @@ members_of number [] rest = rest
 members_of number (r ∷ rows) rest = member r.key (integer (pos (number r))) (members_of number rows rest)
 
 abbrev table_of : (Range → ℕ) → Members
-table_of number = members_of number ranges (member (codes "decision_cache") (table (members_of number cache_ranges no_members)) no_members)
+table_of number = members_of number ranges (member (codes "decision_cache") (table (members_of number cache_ranges no_members)) (member (codes "ledger") (table (members_of number ledger_ranges no_members)) no_members))
 
-defaults : numbers_of (config_of no_members) ≡ 30000 ∷ 0 ∷ 50000 ∷ 1 ∷ 1 ∷ 1024 ∷ 1024 ∷ 512 ∷ 1024 ∷ 0 ∷ 4 ∷ 0 ∷ 1000 ∷ 0 ∷ 7 ∷ 0 ∷ 0 ∷ 0 ∷ 0 ∷ []
+defaults : numbers_of (config_of no_members) ≡ 30000 ∷ 0 ∷ 50000 ∷ 1 ∷ 1 ∷ 1024 ∷ 1024 ∷ 512 ∷ 1024 ∷ 0 ∷ 4 ∷ 0 ∷ 1000 ∷ 0 ∷ 7 ∷ 0 ∷ 0 ∷ 0 ∷ 0 ∷ 1000 ∷ 1024 ∷ []
 defaults = refl
 
 no_second_address_by_default : (config_of no_members).admin ≡ []
@@ -131,10 +132,10 @@ chosen : map (λ members. choices_of (config_of members)) (no_members
 chosen = refl
 
 -- each key gives its own number
-lowest_values : numbers_of (config_of (table_of (λ r. r.lowest))) ≡ 1 ∷ 0 ∷ 1 ∷ 1 ∷ 1 ∷ 1 ∷ 1 ∷ 1 ∷ 1 ∷ 0 ∷ 1 ∷ 0 ∷ 1 ∷ 0 ∷ 1 ∷ 0 ∷ 0 ∷ 0 ∷ 0 ∷ []
+lowest_values : numbers_of (config_of (table_of (λ r. r.lowest))) ≡ 1 ∷ 0 ∷ 1 ∷ 1 ∷ 1 ∷ 1 ∷ 1 ∷ 1 ∷ 1 ∷ 0 ∷ 1 ∷ 0 ∷ 1 ∷ 0 ∷ 1 ∷ 0 ∷ 0 ∷ 0 ∷ 0 ∷ 1 ∷ 1 ∷ []
 lowest_values = refl
 
-greatest_values : numbers_of (config_of (table_of (λ r. r.greatest))) ≡ 3600000 ∷ 3600000 ∷ 1000000 ∷ 64 ∷ 64 ∷ 65536 ∷ 65536 ∷ 8192 ∷ 65536 ∷ 1048576 ∷ 64 ∷ 1073741824 ∷ 60000 ∷ 1048576 ∷ 1000 ∷ 1048576 ∷ 1048576 ∷ 1000000 ∷ 1000000 ∷ []
+greatest_values : numbers_of (config_of (table_of (λ r. r.greatest))) ≡ 3600000 ∷ 3600000 ∷ 1000000 ∷ 64 ∷ 64 ∷ 65536 ∷ 65536 ∷ 8192 ∷ 65536 ∷ 1048576 ∷ 64 ∷ 1073741824 ∷ 60000 ∷ 1048576 ∷ 1000 ∷ 1048576 ∷ 1048576 ∷ 1000000 ∷ 1000000 ∷ 60000 ∷ 1048576 ∷ []
 greatest_values = refl
 
 abbrev own_numbers : Members
@@ -156,9 +157,10 @@ own_numbers =
     (member (codes "output_keep") (integer (pos 59))
     (member (codes "decisions_max_mib") (integer (pos 61))
     (member (codes "record_max_mib") (integer (pos 67))
-    (member (codes "decision_cache") (table (member (codes "sampled_cache_size") (integer (pos 29)) (member (codes "non_sampled_cache_size") (integer (pos 31)) no_members))) no_members)))))))))))))))))
+    (member (codes "decision_cache") (table (member (codes "sampled_cache_size") (integer (pos 29)) (member (codes "non_sampled_cache_size") (integer (pos 31)) no_members)))
+    (member (codes "ledger") (table (member (codes "sync_interval_ms") (integer (pos 71)) (member (codes "max_mib") (integer (pos 73)) no_members))) no_members))))))))))))))))))
 
-own_values : numbers_of (config_of own_numbers) ≡ 2 ∷ 3 ∷ 5 ∷ 7 ∷ 11 ∷ 13 ∷ 17 ∷ 19 ∷ 37 ∷ 41 ∷ 47 ∷ 43 ∷ 23 ∷ 53 ∷ 59 ∷ 61 ∷ 67 ∷ 29 ∷ 31 ∷ []
+own_values : numbers_of (config_of own_numbers) ≡ 2 ∷ 3 ∷ 5 ∷ 7 ∷ 11 ∷ 13 ∷ 17 ∷ 19 ∷ 37 ∷ 41 ∷ 47 ∷ 43 ∷ 23 ∷ 53 ∷ 59 ∷ 61 ∷ 67 ∷ 29 ∷ 31 ∷ 71 ∷ 73 ∷ []
 own_values = refl
 
 -- the wait from a root on by each of its two names, and by neither
@@ -222,3 +224,17 @@ sent_so = refl
 sent_as : map (λ (text : List ℕ). (config_of (member (codes "export") (table (one_text (codes "encoding") text)) no_members)).export.encoding) (codes "json" ∷ codes "proto" ∷ [])
     ≡ encoding_is.Json ∷ encoding_is.Protobuf ∷ []
 sent_as = refl
+
+-- where requests wait: nowhere by default, and never synced
+no_ledger_by_default : (config_of no_members).ledger ≡ record { path = []; sync = sync_is.None; sync_interval_ms = 1000; max_mib = 1024 }
+no_ledger_by_default = refl
+
+-- by its own keys, each with a value that no other key has
+own_ledger : (config_of (member (codes "ledger") (table (member (codes "path") (string (codes "f")) (member (codes "sync") (string (codes "request")) (member (codes "sync_interval_ms") (integer (pos 71)) (member (codes "max_mib") (integer (pos 73)) no_members))))) no_members)).ledger
+    ≡ record { path = codes "f"; sync = sync_is.Request; sync_interval_ms = 71; max_mib = 73 }
+own_ledger = refl
+
+-- when it is synced: by each of the three texts
+ledger_synced : map (λ (text : List ℕ). (config_of (member (codes "ledger") (table (one_text (codes "sync") text)) no_members)).ledger.sync) (codes "none" ∷ codes "interval" ∷ codes "request" ∷ [])
+    ≡ sync_is.None ∷ sync_is.Interval ∷ sync_is.Request ∷ []
+ledger_synced = refl

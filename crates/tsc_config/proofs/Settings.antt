@@ -9,9 +9,9 @@ use Rattle.toml.specs.Data.{Data, string, integer, boolean, table, Members, get_
 use Rattle.toml.specs.Parse.{parse_document}
 use Rattle.policy_tree.specs.Faults.{fault_of_policies}
 use Rattle.policy_tree.specs.declared.fault.PolicyFault.{PolicyFault}
-use Rattle.config_faults.specs.Faults.{config_fault_number, least, optional, required, unknown_fault, integer_fault, text_fault, truth_fault, choice_fault, is_log_form, log_fault, is_output_fault, output_fault_fault, cache_fault, endpoint_fault, field_fault, fields_fault, headers_fault, export_fault, setting_fault, each_setting_fault, policies_fault, table_fault, keys_fault, twice_fault}
+use Rattle.config_faults.specs.Faults.{config_fault_number, least, optional, required, unknown_fault, integer_fault, text_fault, truth_fault, choice_fault, is_log_form, log_fault, is_output_fault, output_fault_fault, is_ledger_sync, ledger_sync_fault, cache_fault, endpoint_fault, field_fault, fields_fault, headers_fault, export_fault, ledger_fault, setting_fault, each_setting_fault, policies_fault, table_fault, keys_fault, twice_fault}
 use Rattle.config_faults.specs.Setting.{Setting}
-use Rattle.config_faults.specs.Tables.{NumberRow, number_row, ChoiceRow, choice_row, number_setting, root_setting, choice_setting, log_setting, output_fault_setting, switch, top_settings, cache_settings, export_settings}
+use Rattle.config_faults.specs.Tables.{NumberRow, number_row, ChoiceRow, choice_row, number_setting, root_setting, choice_setting, log_setting, output_fault_setting, ledger_sync_setting, switch, top_settings, cache_settings, export_settings, ledger_settings}
 use Rattle.config_faults.specs.declared.tables.ChoiceKey.{ChoiceKey}
 use Rattle.config_faults.specs.declared.tables.ChoiceKey.TheVariants as choice_is
 use Rattle.config_faults.specs.declared.tables.TextKey.TheVariants as text_is
@@ -21,12 +21,14 @@ use Rattle.tsc_config.specs.Reading.{expressions_among, some_is_none, reading, r
 use Rattle.config_faults.specs.Exports.{is_endpoint}
 use Rattle.tsc_config.specs.HeaderFields.{value_of, fields_in, headers_of, AreFields}
 use Rattle.config_faults.specs.Headers.{may_be_sent}
-use Rattle.tsc_config.specs.Settings.{IsNumberAtEither, IsTextAt, IsTruthAt, IsChoiceAt, IsLogAt, IsOutputFaultAt, AreHeadersAt, IsEncodingAt, HasExport, IsExportAt, HasSettings, ReadsSettings}
+use Rattle.tsc_config.specs.Settings.{IsNumberAtEither, IsTextAt, IsTruthAt, IsChoiceAt, IsLogAt, IsOutputFaultAt, AreHeadersAt, IsEncodingAt, HasExport, IsExportAt, IsLedgerSyncAt, HasLedger, IsLedgerAt, HasSettings, ReadsSettings}
 use Rattle.tsc_config.specs.declared.log_form.LogForm.{LogForm}
 use Rattle.tsc_config.specs.declared.log_form.LogForm.TheVariants as log_is
 use Rattle.tsc_config.specs.declared.output_fault.OutputFault.{OutputFault}
 use Rattle.tsc_config.specs.declared.output_fault.OutputFault.TheVariants as output_is
-use Rattle.tsc_config.specs.Values.{config_of, bounded_of, number_by, natural_of, first_found, cache_size, address_of, truth_of, is_other, log_form_of, output_fault_of, text_of, number_or, encoding_by, export_in, export_of}
+use Rattle.tsc_config.specs.declared.ledger.LedgerSync.{LedgerSync}
+use Rattle.tsc_config.specs.declared.ledger.LedgerSync.TheVariants as sync_is
+use Rattle.tsc_config.specs.Values.{config_of, bounded_of, number_by, natural_of, first_found, cache_size, address_of, truth_of, is_other, log_form_of, output_fault_of, text_of, number_or, encoding_by, export_in, export_of, ledger_sync_of, ledger_in, ledger_of}
 use Rattle.tsc_config.specs.declared.config.Config.{Config}
 use Rattle.config_faults.specs.declared.fault.ConfigFault.{ConfigFault}
 use Rattle.config_faults.specs.declared.fault.ConfigFault.TheVariants.{OutOfRange, TooFewTraces, UnknownKey, NotAnExpression}
@@ -244,17 +246,52 @@ exports given None e f = inl (e, refl)
 exports given (Some (table settings)) e f = inr (settings, e, has_export settings (neither (unknown_fault table_is.Export settings) _ f).1)
 exports given (Some _) e f = cc
 
+-- when the ledger is synced
+ledger_sync : (given : Members) (at : Option Data) → get_member (codes "sync") given ≡ at → optional ledger_sync_fault at ≡ None → IsLedgerSyncAt given (ledger_sync_of at)
+ledger_sync given None e f = inl (e, refl)
+ledger_sync given (Some (string bytes)) e f = of (bytes_eq bytes (codes "interval")) (bytes_eq bytes (codes "request")) refl refl
+  where
+    of : (i r : Bool) → bytes_eq bytes (codes "interval") ≡ i → bytes_eq bytes (codes "request") ≡ r → IsLedgerSyncAt given (if i then sync_is.Interval else if r then sync_is.Request else sync_is.None)
+    of true r t u = let same : bytes ≡ codes "interval" = (bytes_eq-Decides bytes (codes "interval")).0 t in inr (inr (inl (rw (← same) e, refl)))
+    of false true t u = let same : bytes ≡ codes "request" = (bytes_eq-Decides bytes (codes "request")).0 u in inr (inr (inr (rw (← same) e, refl)))
+    of false false t u =
+        let first : bytes_eq bytes (codes "none") ≡ true = first_of _ _ (allowed (is_ledger_sync bytes) f) (ap (λ b. b || bytes_eq bytes (codes "request")) t ∙ u) in
+        let same : bytes ≡ codes "none" = (bytes_eq-Decides bytes (codes "none")).0 first in
+        inr (inl (rw (← same) e, refl))
+ledger_sync given (Some _) e f = cc
+
+-- the text of a key that has to stand there
+required_text : (at : Option Data) → required text_fault at ≡ None → at ≡ Some (string (text_of at))
+required_text None e = cc
+required_text (Some (string text)) e = refl
+required_text (Some _) e = cc
+
+-- the table of `ledger`
+has_ledger : (given : Members) → each_setting_fault ledger_settings given ≡ None → HasLedger given (ledger_in given)
+has_ledger given e = record {
+  path = required_text (get_member (codes "path") given) (free ledger_settings given (codes "path") _ refl e);
+  sync = ledger_sync given (get_member (codes "sync") given) refl (free ledger_settings given (codes "sync") (ledger_sync_setting text_is.LedgerSync) refl e);
+  sync_interval_ms = number_in ledger_settings given number_is.SyncInterval refl e;
+  max_mib = number_in ledger_settings given number_is.LedgerMax refl e;
+}
+
+ledgers : (given : Members) (at : Option Data) → get_member (codes "ledger") given ≡ at → optional ledger_fault at ≡ None → IsLedgerAt given (ledger_of at)
+ledgers given None e f = inl (e, refl)
+ledgers given (Some (table settings)) e f = inr (settings, e, has_ledger settings (neither (unknown_fault table_is.Ledger settings) _ f).1)
+ledgers given (Some _) e f = cc
+
 -- each part of a table without a fault has none
 pub table_parts : (members : Members) → table_fault members ≡ None → (each_setting_fault top_settings members ≡ None)
     × (optional cache_fault (get_member (codes "decision_cache") members) ≡ None) × (optional export_fault (get_member (codes "export") members) ≡ None)
-    × (required policies_fault (get_member (codes "policies") members) ≡ None) × (twice_fault members ≡ None)
+    × (optional ledger_fault (get_member (codes "ledger") members) ≡ None) × (required policies_fault (get_member (codes "policies") members) ≡ None) × (twice_fault members ≡ None)
 unfolding table_fault keys_fault
 table_parts members e =
     let k = neither (least (unknown_fault table_is.Config members) (twice_fault members)) _ e in
     let r = neither (each_setting_fault top_settings members) _ k.1 in
     let c = neither (optional cache_fault (get_member (codes "decision_cache") members)) _ r.1 in
     let x = neither (optional export_fault (get_member (codes "export") members)) _ c.1 in
-    (r.0, c.0, x.0, x.1, (neither (unknown_fault table_is.Config members) (twice_fault members) k.0).1)
+    let l = neither (optional ledger_fault (get_member (codes "ledger") members)) _ x.1 in
+    (r.0, c.0, x.0, l.0, l.1, (neither (unknown_fault table_is.Config members) (twice_fault members) k.0).1)
 
 -- the truth value at a key that is false by default
 pub switched : (members : Members) (name : List ℕ) → setting_named name top_settings ≡ Some (switch name) → each_setting_fault top_settings members ≡ None → IsTruthAt members name (truth_of (get_member name members))
@@ -273,7 +310,7 @@ whole members e =
       decision_wait = number_in top_settings members number_is.DecisionWait refl f;
       root_wait = natural_at_either members (codes "root_wait_ms") (codes "decision_wait_after_root_received_ms") (get_member (codes "root_wait_ms") members)
           (get_member (codes "decision_wait_after_root_received_ms") members) refl refl (free top_settings members (codes "root_wait_ms") (root_setting number_is.RootWait) refl f)
-          (free top_settings members (codes "decision_wait_after_root_received_ms") (root_setting number_is.RootReceived) refl f) (not_twice members t.4);
+          (free top_settings members (codes "decision_wait_after_root_received_ms") (root_setting number_is.RootReceived) refl f) (not_twice members t.5);
       num_traces = number_in top_settings members number_is.NumTraces refl f;
       sampled_cache_size = cache members number_is.SampledCacheSize (get_member (codes "decision_cache") members) refl t.1 refl;
       non_sampled_cache_size = cache members number_is.NonSampledCacheSize (get_member (codes "decision_cache") members) refl t.1 refl;
@@ -306,6 +343,7 @@ whole members e =
       metrics = text (codes "metrics") [] members (get_member (codes "metrics") members) refl (free top_settings members (codes "metrics") _ refl f);
       log = log_form members (get_member (codes "log") members) refl (free top_settings members (codes "log") (log_setting text_is.Log) refl f);
       export = exports members (get_member (codes "export") members) refl t.2;
+      ledger = ledgers members (get_member (codes "ledger") members) refl t.3;
     }
 
 -- what is read as a configuration is the table's, which has no fault

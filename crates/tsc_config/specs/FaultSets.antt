@@ -9,7 +9,7 @@ use Rattle.policy_tree.specs.Faults.{fault_of_policies}
 use Rattle.policy_tree.specs.declared.fault.PolicyFault.{PolicyFault}
 use Rattle.policy_tree.specs.declared.policy.Join.{Join}
 use Rattle.policy_tree.specs.declared.policy.Join.TheVariants as join_is
-use Rattle.config_faults.specs.Tables.{top_settings, cache_settings, export_settings}
+use Rattle.config_faults.specs.Tables.{top_settings, cache_settings, export_settings, ledger_settings}
 use Rattle.config_faults.specs.PolicyTypes.{type_name, settings}
 use Rattle.config_faults.specs.Keys.{type_at, join_type, join_name, sub_key, join_at}
 use Rattle.config_faults.specs.Faults.{config_fault_number, required, unknown_fault, text_fault, type_fault, item_fault, wanted_fault, order_fault, twice_fault}
@@ -155,6 +155,10 @@ CacheHas value fault = TableHas table_is.DecisionCache cache_settings value faul
 abbrev pub ExportHas : Data → ConfigFault → Type 0
 ExportHas value fault = TableHas table_is.Export export_settings value fault
 
+-- the table of `ledger` has this fault
+abbrev pub LedgerHas : Data → ConfigFault → Type 0
+LedgerHas value fault = TableHas table_is.Ledger ledger_settings value fault
+
 -- the table of a configuration has this fault
 abbrev pub HasFault : Members → ConfigFault → Type 0
 HasFault members fault =
@@ -162,7 +166,8 @@ HasFault members fault =
     ⊎ (SomeSettingHas top_settings members fault
     ⊎ (OptionalHas CacheHas (get_member (codes "decision_cache") members) fault
     ⊎ (OptionalHas ExportHas (get_member (codes "export") members) fault
-    ⊎ RequiredHas PoliciesHave (get_member (codes "policies") members) fault)))
+    ⊎ (OptionalHas LedgerHas (get_member (codes "ledger") members) fault
+    ⊎ RequiredHas PoliciesHave (get_member (codes "policies") members) fault))))
 
 -- some text that is wanted to be a regular expression or a condition is none
 abbrev pub SomeIsNone : List PolicyExpression → Type 0

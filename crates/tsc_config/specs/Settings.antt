@@ -14,6 +14,9 @@ use Rattle.tsc_config.specs.declared.exports.Export.{Export}
 use Rattle.tsc_config.specs.declared.exports.ExportEncoding.{ExportEncoding}
 use Rattle.tsc_config.specs.declared.exports.ExportEncoding.TheVariants as encoding_is
 use Rattle.tsc_config.specs.declared.headers.HeaderField.{HeaderField}
+use Rattle.tsc_config.specs.declared.ledger.Ledger.{Ledger}
+use Rattle.tsc_config.specs.declared.ledger.LedgerSync.{LedgerSync}
+use Rattle.tsc_config.specs.declared.ledger.LedgerSync.TheVariants as sync_is
 
 -- the number of a key: its default, where it doesn't stand there; else the whole number there, which is within these
 -- bounds
@@ -101,6 +104,28 @@ IsExportAt members export =
     ((get_member (codes "export") members ≡ None) × (export.endpoint ≡ []))
     ⊎ ((given : Members) × (get_member (codes "export") members ≡ Some (table given)) × HasExport given export)
 
+-- when the ledger is synced: never, where its key doesn't stand there; else what the text there names
+abbrev pub IsLedgerSyncAt : Members → LedgerSync → Type 0
+IsLedgerSyncAt given sync =
+    ((get_member (codes "sync") given ≡ None) × (sync ≡ sync_is.None))
+    ⊎ (((get_member (codes "sync") given ≡ Some (string (codes "none"))) × (sync ≡ sync_is.None))
+    ⊎ (((get_member (codes "sync") given ≡ Some (string (codes "interval"))) × (sync ≡ sync_is.Interval))
+    ⊎ ((get_member (codes "sync") given ≡ Some (string (codes "request"))) × (sync ≡ sync_is.Request))))
+
+-- the table of `ledger`: a folder, when its files are synced, and each number its default or a whole number within its
+-- bounds
+pub record HasLedger (given : Members) (ledger : Ledger) : Type 0 where
+  pub path : get_member (codes "path") given ≡ Some (string ledger.path)
+  pub sync : IsLedgerSyncAt given ledger.sync
+  pub sync_interval_ms : IsNumberAt given (codes "sync_interval_ms") 1000 1 60000 ledger.sync_interval_ms
+  pub max_mib : IsNumberAt given (codes "max_mib") 1024 1 1048576 ledger.max_mib
+
+-- requests wait in no folder where there is no such table
+abbrev pub IsLedgerAt : Members → Ledger → Type 0
+IsLedgerAt members ledger =
+    ((get_member (codes "ledger") members ≡ None) × (ledger.path ≡ []))
+    ⊎ ((given : Members) × (get_member (codes "ledger") members ≡ Some (table given)) × HasLedger given ledger)
+
 -- each key of a table: its default, its least and greatest number, and the setting that has its value
 pub record HasSettings (members : Members) (config : Config) : Type 0 where
   pub decision_wait : IsNumberAt members (codes "decision_wait_ms") 30000 1 3600000 config.decision_wait
@@ -137,6 +162,7 @@ pub record HasSettings (members : Members) (config : Config) : Type 0 where
   pub metrics : IsTextAt members (codes "metrics") [] config.metrics
   pub log : IsLogAt members config.log
   pub export : IsExportAt members config.export
+  pub ledger : IsLedgerAt members config.ledger
 
 -- a text that is read as a configuration is a document with these settings
 abbrev pub ReadsSettings : Type 0

@@ -37,6 +37,9 @@ use Rattle.tsc_config.specs.declared.output_fault.OutputFault.TheVariants as out
 use Rattle.tsc_config.specs.declared.exports.Export.{Export}
 use Rattle.tsc_config.specs.declared.exports.ExportEncoding.{ExportEncoding}
 use Rattle.tsc_config.specs.declared.exports.ExportEncoding.TheVariants as encoding_is
+use Rattle.tsc_config.specs.declared.ledger.Ledger.{Ledger}
+use Rattle.tsc_config.specs.declared.ledger.LedgerSync.{LedgerSync}
+use Rattle.tsc_config.specs.declared.ledger.LedgerSync.TheVariants as sync_is
 
 -- the number of a value, within the bounds of this row; any other value counts as absent
 abbrev pub bounded_value : NumberRow → Data → ℕ
@@ -427,6 +430,33 @@ abbrev pub export_of : Option Data → Export
 export_of None = export_in no_members
 export_of (Some value) = export_value value
 
+-- when the ledger is synced, as a text names it
+abbrev pub ledger_sync_named : (text : List ℕ) → LedgerSync
+ledger_sync_named text = if bytes_eq text (codes "interval") then sync_is.Interval else if bytes_eq text (codes "request") then sync_is.Request else sync_is.None
+
+-- the same by what stands at its key
+abbrev pub ledger_sync_of : Option Data → LedgerSync
+ledger_sync_of (Some (string text)) = ledger_sync_named text
+ledger_sync_of _ = sync_is.None
+
+-- what the table of `ledger` gives
+abbrev pub ledger_in : Members → Ledger
+ledger_in members = record {
+  path = text_of (get_member (codes "path") members);
+  sync = ledger_sync_of (get_member (codes "sync") members);
+  sync_interval_ms = number_by (number_row number_is.SyncInterval) members;
+  max_mib = number_by (number_row number_is.LedgerMax) members;
+}
+
+abbrev pub ledger_value : Data → Ledger
+ledger_value (table members) = ledger_in members
+ledger_value _ = ledger_in no_members
+
+-- what stands at `ledger`, where nothing is as an empty table
+abbrev pub ledger_of : Option Data → Ledger
+ledger_of None = ledger_in no_members
+ledger_of (Some value) = ledger_value value
+
 -- the configuration of a table
 abbrev pub config_of : Members → Config
 config_of members = record {
@@ -465,4 +495,5 @@ config_of members = record {
   keeps_doubles = is_other (choice_row choice_is.DoubleValues) (get_member (choice_row choice_is.DoubleValues).name members);
   close_at_end_of_input = truth_of (get_member (codes "close_at_end_of_input") members);
   export = export_of (get_member (codes "export") members);
+  ledger = ledger_of (get_member (codes "ledger") members);
 }

@@ -11,6 +11,7 @@ ghost use Rattle.tsc_config.specs.Values.{InRange, config_of};
 
 use crate::exports::{Export, export_at};
 use crate::expressions::check_expressions;
+use crate::ledger::{Ledger, ledger_at};
 use crate::log_form::{LogForm, log_form_at};
 use crate::output_fault::{OutputFault, output_fault_at};
 use crate::settings_values::{number_at, truth_at};
@@ -120,6 +121,8 @@ pub struct Config {
     pub close_at_end_of_input: bool,
     /// Where the lines are sent to, in place of being printed (this project's option `export`).
     pub export: Export,
+    /// Where requests wait that are to outlive the process (this project's option `ledger`).
+    pub ledger: Ledger,
 }
 
 impl Config {
@@ -164,10 +167,11 @@ impl Config {
 /// `decisions_max_mib`, from 0 to 1048576, else 0; `record`, a text, else nothing; `record_max_mib`, from 0 to
 /// 1048576, else 0; `record_policy`, `accept_gzip`, `accept_protobuf` and `close_at_end_of_input`, true or false, else
 /// false; `queue_full`, `partial` or `retry`, else `partial`; `output_fault`, `discard`, `stop` or `retry`,
-/// else `discard`; and `double_values`, `discard` or `keep`, else `discard`; and `export`, a table with a required
-/// `endpoint` ([`Export`] has its keys), else nothing is sent. Of a `string_attribute` policy `values` are regular
-/// expressions where `enabled_regex_matching` is true (tailsamplingprocessor README); its `cache_max_size`, a whole
-/// number from 0, has no effect.
+/// else `discard`; `double_values`, `discard` or `keep`, else `discard`; `export`, a table with a required `endpoint`
+/// ([`Export`] has its keys), else nothing is sent; and `ledger`, a table with a required `path` ([`Ledger`] has its
+/// keys), else requests outlive no kill. Of a `string_attribute` policy `values` are regular expressions where
+/// `enabled_regex_matching` is true (tailsamplingprocessor README); its `cache_max_size`, a whole number from 0, has no
+/// effect.
 ///
 /// `Err` is the fault of least number that the text has ([`crate::laws::answers_least_fault`]), `NoMemory` where memory
 /// was refused, or `ExpressionTooBig` for a text that has no other fault. For a text of blanks and comments alone these
@@ -257,5 +261,6 @@ fn given_by(alloc: Global, table: &Table, policies: Policies) -> Result<Config, 
         keeps_doubles: is_other_at(table, ChoiceKey::DoubleValues),
         close_at_end_of_input: truth_at(table, "close_at_end_of_input"),
         export: export_at(alloc, table)?,
+        ledger: ledger_at(alloc, table)?,
     })
 }
