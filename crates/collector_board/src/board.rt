@@ -3,21 +3,18 @@ use crate::cells::{PolicyCells, ShardCells, policy_cells};
 use crate::decision_listeners::DecisionListeners;
 use crate::decision_queue::DecisionQueue;
 use crate::export_progress::ExportProgress;
+use crate::ledger_desk::LedgerDesk;
 use crate::record_queue::RecordQueue;
 use crate::trace_questions::TraceQuestions;
 use batch_post::AttemptOutcome;
-use decision_line::{DecidedTrace, EvictedTrace, LateSpans, Said, TraceHeld};
 use drop_ledger::{Count, Report};
 use event_log::Level;
 use lane_queue::Brake;
 use metrics_text::{PolicyNumbers, ShardNumbers};
 use otlp_types::{Text, TryClone};
 use policy_tree::Policies;
-use span_ids::TraceId;
 use std::alloc::{AllocError, Global};
-use std::sync::Wait;
 use std::sync::atomic::{AtomicBool, AtomicU64, Ordering};
-use thread_watch::{Barrier, ShardLoad, Watcher};
 
 /// The number of counts in a report.
 const PLACES: usize = 9;
@@ -41,9 +38,9 @@ pub struct Board {
     output_bytes: AtomicU64,
     memory_bytes: AtomicU64,
     /// What no policy decided, and then what each did, in order.
-    policies: Vec<PolicyCells>,
-    late_sampled: AtomicU64,
-    shards: Vec<ShardCells>,
+    pub(crate) policies: Vec<PolicyCells>,
+    pub(crate) late_sampled: AtomicU64,
+    pub(crate) shards: Vec<ShardCells>,
     /// Whether a write of the output failed for good.
     has_failed: AtomicBool,
     /// Spans that the backend rejected.
@@ -55,7 +52,7 @@ pub struct Board {
     /// Attempts to send a line that had no answer.
     attempts_unanswered: AtomicU64,
     /// Spans with valid ids of which attributes were left out.
-    incomplete: AtomicU64,
+    pub(crate) incomplete: AtomicU64,
     /// Lines of the log that warned.
     log_warnings: AtomicU64,
     /// Lines of the log that told an error.
@@ -67,13 +64,18 @@ pub struct Board {
     /// The system's number of the error by which that began, and 0: nothing was taken.
     failing_code: AtomicU64,
     /// To whom decisions are told.
-    listeners: DecisionListeners,
+    pub(crate) listeners: DecisionListeners,
     /// What is asked of the shards.
-    questions: TraceQuestions,
+    pub(crate) questions: TraceQuestions,
     /// How the backend takes what is sent to it.
     export: ExportProgress,
     /// Where what came waits until it is written, if it is.
     record: Option<RecordQueue>,
+    /// What is told to the ledger, where there is one.
+    pub(crate) ledger: LedgerDesk,
+    /// Requests are refused, and spans are, since memory is short.
+    is_short: AtomicBool,
+    is_shorter: AtomicBool,
 }
 
 impl Board {
@@ -115,6 +117,9 @@ impl Board {
             questions: TraceQuestions::new(alloc, shards),
             export: ExportProgress::new(),
             record: None,
+            ledger: LedgerDesk::new(),
+            is_short: AtomicBool::new(false),
+            is_shorter: AtomicBool::new(false),
         })
     }
 
@@ -132,6 +137,42 @@ impl Board {
     /// Where what came waits until it is written, if it is.
     pub fn record_queue(&self) -> Option<&RecordQueue> {
         self.record.as_ref()
+    }
+
+    /// From now on there is a ledger, of so many lanes and shards; it syncs each request, if `syncs`.
+    pub fn keep_ledger(
+        &mut self,
+        alloc: Global,
+        lanes: usize,
+        shards: usize,
+        syncs: bool,
+    ) -> Result<(), AllocError> {
+        self.ledger.keep(alloc, lanes, shards, syncs)
+    }
+
+    /// What is told to the ledger, where there is one.
+    pub fn ledger(&self) -> &LedgerDesk {
+        &self.ledger
+    }
+
+    /// Memory is short, so that no more requests are to be taken, or shorter still, so that shards keep no more spans.
+    pub fn memory_is(&self, is_short: bool, is_shorter: bool) {
+        self.is_short.store(is_short, Ordering::Relaxed);
+        self.is_shorter.store(is_shorter, Ordering::Relaxed);
+        self.brakes();
+    }
+
+    /// No request can be kept in the ledger, so that none is to be taken, or they can.
+    pub fn ledger_stops(&self, stops: bool) {
+        self.ledger.set(stops);
+        self.brakes();
+    }
+
+    /// Sets the brake by what is known.
+    fn brakes(&self) {
+        let is_short = self.is_short.load(Ordering::Relaxed);
+        let is_shorter = self.is_shorter.load(Ordering::Relaxed);
+        self.brake.set(is_short || self.ledger.stops(), is_shorter);
     }
 
     /// Where decisions wait until they are written, if they are.
@@ -364,7 +405,7 @@ impl Board {
     }
 
     /// The cell of the count that has this place in a report.
-    fn cell(&self, place: usize) -> &AtomicU64 {
+    pub(crate) fn cell(&self, place: usize) -> &AtomicU64 {
         match place {
             0 => &self.received,
             1 => &self.handed,
@@ -376,74 +417,5 @@ impl Board {
             7 => &self.late_not_sampled,
             _ => &self.exporter_down,
         }
-    }
-}
-
-impl Barrier for Board {}
-
-impl Watcher for Board {
-    fn counted(&self, place: usize, spans: u64) {
-        // The thread has it in its own report already, which is the one that is printed (D-195).
-        self.cell(place).fetch_add(spans, Ordering::Relaxed);
-    }
-
-    fn takes_incomplete(&self) {
-        self.incomplete.fetch_add(1, Ordering::Relaxed);
-    }
-
-    fn holds(&self, shard: u16, load: ShardLoad) {
-        if let Some(cells) = self.shards.get(shard as usize) {
-            cells.queued.store(load.queued, Ordering::Relaxed);
-            cells.traces.store(load.traces, Ordering::Relaxed);
-            cells.spans.store(load.spans, Ordering::Relaxed);
-            cells.waited.store(load.waited, Ordering::Relaxed);
-        }
-    }
-
-    fn decided(&self, decider: Option<usize>, is_sampled: bool) {
-        let place = match decider {
-            Some(place) => place.saturating_add(1),
-            None => 0,
-        };
-        let Some(cells) = self.policies.get(place) else {
-            return;
-        };
-        if is_sampled {
-            cells.sampled.fetch_add(1, Ordering::Relaxed);
-        } else {
-            cells.not_sampled.fetch_add(1, Ordering::Relaxed);
-        }
-    }
-
-    fn hears_decisions(&self) -> bool {
-        self.listeners.hears()
-    }
-
-    fn trace_decided<R: Wait>(&self, rt: &R, trace: &DecidedTrace, said: &[Said]) {
-        self.listeners.decided(rt, trace, said);
-    }
-
-    fn trace_evicted<R: Wait>(&self, rt: &R, trace: &EvictedTrace) {
-        self.listeners.evicted(rt, trace);
-    }
-
-    fn spans_late<R: Wait>(&self, rt: &R, late: &LateSpans) {
-        self.listeners.late(rt, late);
-    }
-
-    fn asks_for_traces(&self) -> bool {
-        self.questions.is_asked()
-    }
-
-    fn asked_trace<R: Wait>(&self, rt: &R, place: usize) -> Option<TraceId> {
-        self.questions.trace_at(rt, place)
-    }
-
-    fn trace_held<R: Wait>(&self, rt: &R, shard: u16, trace: TraceId, held: TraceHeld) {
-        self.questions.answer(rt, shard, trace, held);
-    }
-
-    fn handed_late(&self) {
-        self.late_sampled.fetch_add(1, Ordering::Relaxed);
     }
 }

@@ -5,6 +5,7 @@ ghost use Rattle.tsc_config.specs.Values.{InRange};
 ghost use Rattle.collector_commands.specs.Configuration.{file_of};
 ghost use Rattle.collector_main.specs.Serving.{Serves, RunsTo, FilesTo, writes_file};
 
+use crate::keeping::Keeping;
 use crate::logging::{say_end, say_fault, say_lost, say_no_memory, say_refused, say_start};
 use crate::opening::{charge_of, copy_of, opened, watches};
 use crate::running::serve_with;
@@ -93,15 +94,23 @@ where
     let Ok(record) = opened_record(rt, alloc, &config, &charge, &mut events) else {
         return (writer, Outcome::CannotWrite);
     };
+    let Ok(mut keeping) = Keeping::open(rt, alloc, &config, &charge, &mut events) else {
+        return (writer, Outcome::CannotWrite);
+    };
     let Ok((listener, door)) = opened(rt, alloc, &config, &charge, around.input, &mut events) else {
         return (writer, Outcome::CannotListen);
     };
+    if keeping.restore(rt, alloc, &config, &charge).is_err() {
+        return (writer, Outcome::CannotListen);
+    }
     let ended = serve_to(rt, alloc, config, &listener, &charge, output, writer);
+    keeping.ended(&charge, &ended.1);
     // Who connected meanwhile is answered, and then nobody listens any more (D-177).
     door.end(rt, &charge);
     drop(listener);
     decisions.end(rt);
     record.end(rt);
+    keeping.end(rt);
     say_lost(rt, alloc, &mut events, &charge);
     // Once the run has ended, and before the report is printed (D-194).
     charge.removes_sockets(rt);

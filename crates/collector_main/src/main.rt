@@ -9,6 +9,7 @@
 mod changed_settings;
 mod closing;
 mod collecting;
+mod keeping;
 mod logging;
 mod opening;
 mod program;

@@ -25,7 +25,7 @@ use std::net::{Net, TcpListener, TcpStream};
 use std::rt::Files;
 use std::sync::{Arc, Wait};
 use std::{fs, io};
-use tsc_config::{Config, LogForm};
+use tsc_config::{Config, LedgerSync, LogForm};
 
 /// A copy of what was read from the configuration's file, for those in charge, and nothing where it wasn't read.
 pub fn copy_of(alloc: Global, file: &Result<Vec<u8>, FileFault>) -> Result<String, AllocError>
@@ -57,6 +57,10 @@ pub fn charge_of(
     }
     if !config.request_record.as_str().is_empty() {
         board.keep_record(alloc, u64::from(config.lanes))?;
+    }
+    if !config.ledger.path.as_str().is_empty() {
+        let syncs = config.ledger.sync == LedgerSync::Request;
+        board.keep_ledger(alloc, config.lanes as usize, config.shards, syncs)?;
     }
     let charge = Charge {
         configuration: settings_in_force(alloc, text?.as_str())?,

@@ -58,7 +58,7 @@ fn print_with<'s, T: Net + Machine, W: Write + Drop>(
         Err(error) if error.kind() == ErrorKind::OutOfMemory => return (writer, Outcome::NoMemory),
         Err(_) => return (writer, Outcome::CannotListen),
     };
-    let clock = SteadyClock::new(rt).recording(shared.board.record_queue());
+    let clock = SteadyClock::new(rt).recording(&shared.board);
     let stops = config.output_fault == OutputFault::Stop;
     let written = WriteSink::new(writer);
     let sink = StoppingSink::new(

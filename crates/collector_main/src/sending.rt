@@ -170,7 +170,7 @@ fn serve_through<'s, D: Driver + Send + Drop, T: Machine, Output: Destination + 
     ensures sink { SinkAnswers (Output.state destination).taken (Output.state destination).failures (Output.state result.0).taken (Output.state result.0).failures result.1 }
     ensures ran { CoreRunTellsTo Output.manner config (Output.state destination).taken (Output.state destination).failures (Output.state result.0).taken (Output.state result.0).failures result.1 }
 {
-    let clock = SteadyClock::new(rt).recording(shared.board.record_queue());
+    let clock = SteadyClock::new(rt).recording(&shared.board);
     // The queue before the backend is the exporter's (D-206).
     let config = with_export_room(config);
     let context = RunContext {

@@ -1,6 +1,7 @@
 //! The thread that looks at a run, and says what begins, what is over, and what went wrong.
 use crate::charge::Charge;
 use crate::event_writer::EventWriter;
+use crate::ledger_events::LedgerKnown;
 use crate::steady_clock::SteadyClock;
 use crate::wall_clock::WallClock;
 use collector_board::{Closer, DecisionQueue, RecordQueue};
@@ -84,6 +85,7 @@ fn watch<W: Write + Drop, R: Wait + Clock>(
 ) {
     let mut events = events;
     let mut known = Known::new();
+    let mut of_ledger = LedgerKnown::new();
     let mut steady = SteadyClock::new(rt);
     for _ in rt.forever() {
         thread::sleep(rt, Duration::from_millis(PAUSE));
@@ -101,6 +103,10 @@ fn watch<W: Write + Drop, R: Wait + Clock>(
         look_at_numbers(rt, alloc, &mut events, charge, &mut known, now);
         look_at_backend(rt, alloc, &mut events, charge, &mut known, now);
         look_at_output(rt, alloc, &mut events, charge, &mut known, now);
+        if let Some(event) = of_ledger.look(charge) {
+            let (level, name) = (event.level, event.name);
+            say(rt, alloc, &mut events, charge, level, name, &event.fields);
+        }
         look_at_end(rt, alloc, &mut events, charge, &mut known);
     }
 }

@@ -56,7 +56,7 @@ fn watch<F: Read + Seek + Drop, R: Wait + Clock>(rt: &R, limit: u64, account: F,
             let waiting = charge.board.waiting();
             let is_short = rule.is_short(taken, waiting);
             let is_shorter = is_short && rule.is_shorter(taken, waiting);
-            charge.board.brake().set(is_short, is_shorter);
+            charge.board.memory_is(is_short, is_shorter);
             pause = pause_before(limit, taken);
         }
         thread::sleep(rt, Duration::from_millis(pause));

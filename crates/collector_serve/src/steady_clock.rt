@@ -4,7 +4,7 @@ ghost use Rattle.std.specs.Duration.{as_nanos};
 ghost use Rattle.collector_serve.specs.Moments.{moment_after};
 
 use crate::wall_clock::WallClock;
-use collector_board::RecordQueue;
+use collector_board::{Board, RecordQueue};
 use http_lane::Clock as Moments;
 use otlp_encoding::Encoding;
 use script_line::connection_number;
@@ -21,6 +21,8 @@ pub struct SteadyClock<'r, R: Clock> {
     began: Option<Instant>,
     /// Where requests that were taken wait until they are written, if they are.
     record: Option<&'r RecordQueue>,
+    /// Where requests that were taken are kept, if they are.
+    board: Option<&'r Board>,
 }
 
 impl<'r, R: Clock> SteadyClock<'r, R> {
@@ -31,16 +33,33 @@ impl<'r, R: Clock> SteadyClock<'r, R> {
             start: WallClock::new(rt).now(),
             began: Instant::now(rt).ok(),
             record: None,
+            board: None,
         }
     }
 
-    /// The clock that hands on requests that were taken, so that they are written.
-    pub fn recording(self, record: Option<&'r RecordQueue>) -> Self {
+    /// The clock that hands on requests that were taken to this board, so that they are kept in a ledger and written to a
+    /// record, where there is one.
+    pub fn recording(self, board: &'r Board) -> Self {
         SteadyClock {
             rt: self.rt,
             start: self.start,
             began: self.began,
-            record,
+            record: board.record_queue(),
+            board: Some(board),
+        }
+    }
+
+}
+
+impl<'r, R: Clock + Wait> SteadyClock<'r, R> {
+    /// Tells the record of a request that was taken.
+    fn records(&self, connection: ConnKey, moment: u64, encoding: Encoding, text: &[u8]) {
+        let Some(record) = self.record else {
+            return;
+        };
+        match connection_number(connection, record.lanes()) {
+            Some(number) => record.put_request(self.rt, number, moment, encoding, text),
+            None => record.loses(1),
         }
     }
 }
@@ -57,14 +76,17 @@ impl<'r, R: Clock + Wait> Moments for SteadyClock<'r, R> {
         }
     }
 
-    fn took(&self, connection: ConnKey, moment: u64, encoding: Encoding, text: &[u8]) {
-        let Some(record) = self.record else {
-            return;
+    fn took(&self, connection: ConnKey, moment: u64, encoding: Encoding, text: &[u8]) -> bool {
+        self.records(connection, moment, encoding, text);
+        let Some(board) = self.board else {
+            return true;
         };
-        match connection_number(connection, record.lanes()) {
-            Some(number) => record.put_request(self.rt, number, moment, encoding, text),
-            None => record.loses(1),
+        let is_kept = board.ledger().keeps(self.rt, connection, moment, encoding, text);
+        if !is_kept {
+            // At once, so that no further request is taken that can't be kept.
+            board.ledger_stops(true);
         }
+        is_kept
     }
 }
 

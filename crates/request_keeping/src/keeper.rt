@@ -9,7 +9,7 @@ use std::collections::VecDeque;
 use std::fs::File;
 use std::io;
 use std::rt::Files;
-use std::sync::Wait;
+use std::sync::{Arc, Wait};
 
 /// After so long a new segment is begun, in milliseconds.
 const SEGMENT_TIME: u64 = 10_000;
@@ -51,7 +51,7 @@ struct ClosedSegment {
 /// Keeps a ledger's files: writes which spans ended, begins new segments, and removes those that are over.
 #[derive(Drop)]
 pub struct Keeper<R: Files<File = File>> {
-    folder: LedgerFolder<R>,
+    folder: Arc<LedgerFolder<R>, Global>,
     alloc: Global,
     settings: KeeperSettings,
     run: u64,
@@ -71,7 +71,7 @@ impl<R: Files<File = File> + Copy> Keeper<R> {
     /// Begins a run behind those whose files are in the folder, at this moment. An error: its files can't be made.
     pub fn begin(
         alloc: Global,
-        folder: LedgerFolder<R>,
+        folder: Arc<LedgerFolder<R>, Global>,
         earlier: &[FileNumber],
         ledger: &RequestLedger,
         settings: KeeperSettings,
@@ -100,11 +100,6 @@ impl<R: Files<File = File> + Copy> Keeper<R> {
         };
         keeper.begin_segment(rt, ledger, now)?;
         Ok(keeper)
-    }
-
-    /// The folder.
-    pub fn folder(&self) -> &LedgerFolder<R> {
-        &self.folder
     }
 
     /// Takes what was told, writes it, and does what is due at this moment.

@@ -64,6 +64,7 @@ pub struct RequestLedger {
     refused_requests: AtomicU64,
     cut_files: AtomicU64,
     is_restored: AtomicBool,
+    has_ended: AtomicBool,
 }
 
 impl RequestLedger {
@@ -102,6 +103,7 @@ impl RequestLedger {
             refused_requests: AtomicU64::new(0),
             cut_files: AtomicU64::new(0),
             is_restored: AtomicBool::new(false),
+            has_ended: AtomicBool::new(false),
         })
     }
 
@@ -271,6 +273,16 @@ impl RequestLedger {
     /// Whether that is so.
     pub fn is_restored(&self) -> bool {
         self.is_restored.load(Ordering::Acquire)
+    }
+
+    /// The run has ended, and each of its spans with it.
+    pub fn ends(&self) {
+        self.has_ended.store(true, Ordering::Release);
+    }
+
+    /// Whether that is so.
+    pub fn has_ended(&self) -> bool {
+        self.has_ended.load(Ordering::Acquire)
     }
 
     /// How many requests of an earlier run were received again, with how many spans, and how many were refused.

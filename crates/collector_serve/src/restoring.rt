@@ -1,0 +1,244 @@
+//! What an earlier run left is sent to the collector again, by itself.
+use crate::charge::Charge;
+use crate::serving::port_alone;
+use http_lane::HasStopMark;
+use otlp_encoding::Encoding;
+use request_keeping::{Earlier, LedgerFolder, LedgerNews, RequestLedger};
+use std::alloc::{AllocError, Global};
+use std::fs::File;
+use std::io::{ErrorKind, Read, Write};
+use std::net::{Net, TcpListener, TcpStream};
+use std::rt::Files;
+use std::sync::{Arc, Wait};
+use std::thread::{JoinHandle, Threads};
+use std::time::{Clock, Duration};
+use std::{io, thread};
+
+/// The pause before a request is sent again that was answered 503, in milliseconds.
+const PAUSE: u64 = 20;
+
+/// The longest wait for an answer, in seconds.
+const PATIENCE: u64 = 30;
+
+/// The longest head of an answer.
+const LONGEST_HEAD: usize = 16_384;
+
+/// Sends what an earlier run left to the collector again. `None`: there was nothing.
+#[derive(Drop)]
+pub struct Restoring {
+    thread: Option<JoinHandle<()>>,
+}
+
+impl Restoring {
+    /// There is nothing to send.
+    pub fn none() -> Self {
+        Restoring { thread: None }
+    }
+
+    /// Starts the thread, which sends to this address. An error: none is started.
+    pub fn start<
+        T: Files<File = File>
+            + Net<Listener = TcpListener, Stream = TcpStream>
+            + Threads
+            + Wait
+            + Clock
+            + Copy
+            + Send
+            + Sync
+            + 'static,
+    >(
+        rt: &T,
+        alloc: Global,
+        address: &str,
+        folder: Arc<LedgerFolder<T>, Global>,
+        earlier: Earlier,
+        charge: Arc<Charge, Global>,
+    ) -> io::Result<Self> {
+        let own = *rt;
+        let address = own_address(alloc, address)?;
+        let thread = thread::spawn(rt, move || {
+            restore(&own, alloc, address.as_str(), &folder, earlier, &charge)
+        })?;
+        Ok(Restoring {
+            thread: Some(thread),
+        })
+    }
+
+    /// The run is over: waits until nothing more is sent.
+    pub fn end<R: Threads + Wait>(self, rt: &R) {
+        let Restoring { thread } = self;
+        if let Some(thread) = thread {
+            thread.join(rt);
+        }
+    }
+}
+
+/// The address at which the process reaches itself.
+fn own_address(alloc: Global, address: &str) -> io::Result<String> {
+    let own = match port_alone(address) {
+        Some(port) => format!(in alloc; "127.0.0.1:{port}")?,
+        None => String::from_str(alloc, address)?,
+    };
+    Ok(own)
+}
+
+/// Sends all that an earlier run left, and then removes its files. What isn't taken stays for the next start.
+fn restore<
+    T: Files<File = File> + Net<Listener = TcpListener, Stream = TcpStream> + Wait + Clock + Copy,
+>(
+    rt: &T,
+    alloc: Global,
+    address: &str,
+    folder: &LedgerFolder<T>,
+    earlier: Earlier,
+    charge: &Charge,
+) {
+    let Some(ledger) = charge.board.ledger().ledger() else {
+        return;
+    };
+    let mut earlier = earlier;
+    ledger.cuts(earlier.cut());
+    match send_all(rt, alloc, address, folder, &mut earlier, charge, ledger) {
+        Ok(true) => {
+            for number in earlier.files() {
+                let _ = folder.remove(*number);
+            }
+            ledger.has_restored();
+        }
+        Ok(false) => ledger.has_restored(),
+        // The collector closes, or can't be reached: the rest waits for the next start.
+        Err(_) => {}
+    }
+}
+
+/// Sends each request, and answers whether all of them were taken. An error: the rest wasn't sent.
+fn send_all<
+    T: Files<File = File> + Net<Listener = TcpListener, Stream = TcpStream> + Wait + Clock + Copy,
+>(
+    rt: &T,
+    alloc: Global,
+    address: &str,
+    folder: &LedgerFolder<T>,
+    earlier: &mut Earlier,
+    charge: &Charge,
+    ledger: &RequestLedger,
+) -> io::Result<bool> {
+    let mut taken_all = true;
+    let count = earlier.requests().len();
+    if count == 0 {
+        return Ok(true);
+    }
+    let mut stream = connected(rt, address)?;
+    for at in 0..count {
+        let bodies = earlier.bodies_of(folder, at)?;
+        let mut is_taken = true;
+        for (encoding, body) in bodies {
+            is_taken &= send(rt, alloc, &mut stream, charge, encoding, &body)?;
+        }
+        let Some(request) = earlier.requests().get(at) else {
+            break;
+        };
+        let (segment, lane, place) = request.at();
+        if is_taken {
+            ledger.tell(
+                rt,
+                LedgerNews::Again {
+                    segment,
+                    lane,
+                    place,
+                },
+            );
+            ledger.restores(request.spans());
+        } else {
+            ledger.refuses();
+            taken_all = false;
+        }
+    }
+    Ok(taken_all)
+}
+
+/// A connection to the collector itself.
+fn connected<T: Net<Listener = TcpListener, Stream = TcpStream>>(
+    rt: &T,
+    address: &str,
+) -> io::Result<TcpStream> {
+    let stream = TcpStream::connect(rt, address)?;
+    stream.set_read_timeout(Some(Duration::from_secs(PATIENCE)))?;
+    Ok(stream)
+}
+
+/// Sends a body until it is taken or refused for good, and answers whether it was taken. An error: the collector closes, or
+/// doesn't answer.
+fn send<S: Read + Write, R: Wait + Clock>(
+    rt: &R,
+    alloc: Global,
+    stream: &mut S,
+    charge: &Charge,
+    encoding: Encoding,
+    body: &[u8],
+) -> io::Result<bool> {
+    let text = request_text(alloc, encoding, body)?;
+    for _ in 0..u64::MAX {
+        if charge.stop.is_set() {
+            return Err(io::Error::from(ErrorKind::ConnectionAborted));
+        }
+        stream.write_all(&text)?;
+        match answered(alloc, stream)? {
+            200 => return Ok(true),
+            // Memory is short, or there is no room: what waits goes first.
+            503 => thread::sleep(rt, Duration::from_millis(PAUSE)),
+            _ => return Ok(false),
+        }
+    }
+    Ok(false)
+}
+
+/// The request with this body.
+fn request_text(alloc: Global, encoding: Encoding, body: &[u8]) -> Result<Vec<u8>, AllocError> {
+    let kind = match encoding {
+        Encoding::Json => "application/json",
+        Encoding::Protobuf => "application/x-protobuf",
+    };
+    let len = body.len();
+    let head = format!(
+        in alloc;
+        "POST /v1/traces HTTP/1.1\r\nHost: tsc\r\nContent-Type: {kind}\r\nContent-Length: {len}\r\n\r\n"
+    )?;
+    let mut text = Vec::with_capacity(alloc, head.len().saturating_add(len))?;
+    text.extend_from_slice(head.as_bytes())?;
+    text.extend_from_slice(body)?;
+    Ok(text)
+}
+
+/// The status of the next answer, which is read whole (RFC 9112, sections 4 and 6.2). An error: there is none.
+fn answered<S: Read>(alloc: Global, stream: &mut S) -> io::Result<u16> {
+    let mut bytes = Vec::new(alloc);
+    let mut piece = [0; 1024];
+    while bytes.len() < LONGEST_HEAD {
+        let count = stream.read(&mut piece)?;
+        if count == 0 {
+            break;
+        }
+        bytes.extend_from_slice(piece.get(..count).unwrap_or(b""))?;
+        if let Some((status, len)) = answer_in(&bytes) {
+            if bytes.len() >= len {
+                return Ok(status);
+            }
+        }
+    }
+    Err(io::Error::from(ErrorKind::UnexpectedEof))
+}
+
+/// The status of an answer, and how long it is, if its head is there.
+fn answer_in(bytes: &[u8]) -> Option<(u16, usize)> {
+    let text = str::from_utf8(bytes).ok()?;
+    let (head, _) = text.split_once("\r\n\r\n")?;
+    let status = head.get(9..12)?.parse().ok()?;
+    let (_, behind) = head.split_once("Content-Length: ")?;
+    let len: usize = match behind.split_once("\r\n") {
+        Some((len, _)) => len.parse().ok()?,
+        None => behind.parse().ok()?,
+    };
+    let len = head.len().saturating_add(4).saturating_add(len);
+    Some((status, len))
+}
