@@ -1,0 +1,23 @@
+//! Laws of the ledger.
+ghost use Rattle.request_ledger.specs.Laws.{RecordsReadBack, TurnedByteIsFound};
+ghost use Rattle.request_ledger.specs.Pending.{NothingEndsTwice, EndedStayEnded};
+
+/// Records that were put one behind the other are read back in order, whatever stands behind them.
+pub fn records_read_back()
+    ensures { RecordsReadBack }
+{}
+
+/// Where one byte of a record's payload was turned to another value, no record is read there.
+pub fn turned_byte_is_found()
+    ensures { TurnedByteIsFound }
+{}
+
+/// No more spans have ended than the ends say.
+pub fn nothing_ends_twice()
+    ensures { NothingEndsTwice }
+{}
+
+/// A span that has ended stays so when more ends follow.
+pub fn ended_stay_ended()
+    ensures { EndedStayEnded }
+{}

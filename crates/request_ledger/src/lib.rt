@@ -1,0 +1,28 @@
+//! The ledger of requests as plain values: the bytes of its records, what a payload says, which spans of a trace are
+//! pending, when a segment may go, and whether there is room for more.
+//!
+//! ```
+//! put_request(&mut out, moment, connection, Encoding::Protobuf, body)?;
+//! put_note(&mut out, &LedgerNote::Handed { trace, span })?;
+//! let payload = record_at(&out, 0).unwrap();
+//! let request = request_in(payload).unwrap();
+//! let ended = ended_of(alloc, &spans, &ends)?;
+//! ```
+#![tactic(auto)]
+
+mod entries;
+mod laws;
+mod notes;
+mod numbers;
+mod pending;
+mod records;
+mod removal;
+mod sums;
+mod writing;
+
+pub use entries::{RequestEntry, put_request, request_in};
+pub use laws::{ended_stay_ended, nothing_ends_twice, records_read_back, turned_byte_is_found};
+pub use notes::{LedgerNote, note_in, put_note};
+pub use pending::{LedgerSpan, TraceEnd, ended_of};
+pub use records::{HEAD_LEN, put_record, record_at};
+pub use removal::{ShardStanding, has_room, is_settled};

@@ -1,0 +1,110 @@
+//! Which spans of one trace have ended, by the notes of it.
+ghost use Rattle.std.specs.Prelude.{◌≡◌, ◌<◌, ◌^◌, length, IfOk};
+ghost use Rattle.request_ledger.specs.Pending.{how_many, is_of, may_end, count_may_end, with_oldest, after_end, ended_spans};
+
+use span_ids::{Moment, SpanId};
+use std::alloc::{AllocError, Global};
+
+/// A span that was received.
+#[derive(Clone, Copy)]
+pub struct LedgerSpan {
+    /// Its id.
+    pub span: SpanId,
+    /// When it came, in milliseconds.
+    pub moment: Moment,
+}
+
+/// What a note says has ended of a trace.
+#[derive(Clone, Copy)]
+pub enum TraceEnd {
+    /// A span with this id was handed over, or given up and counted.
+    Handed(SpanId),
+    /// So many spans, of those that came up to this moment, were counted as dropped.
+    Counted { moment: Moment, spans: u64 },
+}
+
+/// Of each span of a trace whether it has ended. The spans stand in the order in which they came, and so do the ends.
+///
+/// `Handed` ends the first span with its id that hasn't ended. `Counted` ends the oldest spans that came up to its moment
+/// and haven't ended, as many as it says, or none where there aren't so many.
+pub fn ended_of(
+    alloc: Global,
+    spans: &[LedgerSpan],
+    ends: &[TraceEnd],
+) -> Result<Vec<bool>, AllocError>
+    ensures { IfOk result (λ ended. ended.items ≡ ended_spans spans.now ends.now) }
+{
+    let mut ended = vec![in alloc; false; spans.len()]?;
+    for end in ends {
+        take_end(spans, &mut ended, end);
+    }
+    Ok(ended)
+}
+
+/// Takes one end.
+fn take_end(spans: &[LedgerSpan], ended: &mut [bool], end: &TraceEnd)
+    requires { length ended.old ≡ length spans.now }
+    ensures { ended.new ≡ after_end spans.now ended.old end.now }
+{
+    let n = how_many(end);
+    if n <= count_may_end(end, spans, ended) {
+        end_oldest(end, n, spans, ended);
+    }
+}
+
+/// How many spans an end says have ended.
+fn how_many(end: &TraceEnd) -> u64
+    ensures { result ≡ how_many end.now }
+{
+    match end {
+        TraceEnd::Handed(_) => 1,
+        TraceEnd::Counted { spans, .. } => *spans,
+    }
+}
+
+/// Whether this span hasn't ended, and the end is of it.
+fn may_end(end: &TraceEnd, span: &LedgerSpan, ended: bool) -> bool
+    ensures { result ≡ may_end end.now span.now ended }
+{
+    !ended && is_of(end, span)
+}
+
+fn is_of(end: &TraceEnd, span: &LedgerSpan) -> bool
+    ensures { result ≡ is_of end.now span.now }
+{
+    match end {
+        TraceEnd::Handed(id) => span.span == *id,
+        TraceEnd::Counted { moment, .. } => span.moment <= *moment,
+    }
+}
+
+/// How many spans the end may end.
+fn count_may_end(end: &TraceEnd, spans: &[LedgerSpan], ended: &[bool]) -> u64
+    requires { length ended.now ≡ length spans.now }
+    ensures { result ≡ count_may_end end.now spans.now ended.now }
+{
+    let mut count = 0;
+    for (i, span) in spans.iter().enumerate() {
+        if may_end(end, span, ended[i]) {
+            count += 1;
+        }
+    }
+    count
+}
+
+/// Ends the oldest spans that the end may end, so many of them.
+fn end_oldest(end: &TraceEnd, n: u64, spans: &[LedgerSpan], ended: &mut [bool])
+    requires { length ended.old ≡ length spans.now }
+    ensures { ended.new ≡ with_oldest end.now n spans.now ended.old }
+{
+    let mut left = n;
+    for (i, span) in spans.iter().enumerate() {
+        if left == 0 {
+            return;
+        }
+        if may_end(end, span, ended[i]) {
+            ended[i] = true;
+            left -= 1;
+        }
+    }
+}
