@@ -1,3 +1,4 @@
+pub mod Back
 pub mod Found
 pub mod Heads
 pub mod Turned
