@@ -9,7 +9,7 @@ use Rattle.std.proofs.lemmas.List.{take_all}
 use Rattle.std.proofs.lemmas.Slice.Eq.{bytes_eq-Decides}
 use Rattle.request_ledger.specs.Sums.{sums_of}
 use Rattle.request_ledger.specs.Format.{head_bytes, record_of, told_len, told_payload, is_record, record_in, records_in}
-use Rattle.request_ledger.proofs.Found.{begins, whole_length, in_whole, in_broken}
+use Rattle.request_ledger.proofs.Found.{begins, whole_length, in_whole}
 
 pub false_unless : (b : Bool) → (b ≡ true → ⊥) → b ≡ false
 false_unless b never = ⊎_elim (λ holds. absurd (never holds)) (λ is. is) (cases_Bool b)

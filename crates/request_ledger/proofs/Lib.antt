@@ -1,4 +1,5 @@
 pub mod Back
+pub mod Ends
 pub mod Found
 pub mod Heads
 pub mod Turned

@@ -1,5 +1,5 @@
 -- A request's payload is read as that request.
-use Rattle.std.proofs.Common.{rules, ◌≡◌, Some, option_map, sym, ◌∙◌, ap}
+use Rattle.std.proofs.Common.{rules, ◌≡◌, Some, ◌∙◌, ap}
 use Rattle.request_ledger.specs.Entries.{seen_request, request_in}
 use Rattle.request_ledger.proofs.Back.{request_back}
 use Rattle.request_ledger.proofs.entries.request_in.Goals as goal

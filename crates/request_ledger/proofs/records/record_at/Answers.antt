@@ -1,5 +1,5 @@
 -- Behind the end there is no record.
-use Rattle.std.proofs.Common.{◌≡◌, ap, sym, ◌∙◌, arith, drop, []}
+use Rattle.std.proofs.Common.{ap, sym, ◌∙◌, arith, []}
 use Rattle.std.proofs.lemmas.List.{drop_all}
 use Rattle.request_ledger.specs.Format.{record_in, records_in}
 use Rattle.request_ledger.proofs.Found.{none_in_none, in_broken, is_record-none}

@@ -1,8 +1,8 @@
 -- A record is whole or not by its head and its payload.
-use Rattle.std.proofs.Common.{◌≡◌, ℕ, ◌+◌, ◌-◌, ◌^◌, ◌<◌, ◌≤◌, List, length, take, drop, get_or, true, false, arith, sym, ◌∙◌, refl, length-take, length-drop}
+use Rattle.std.proofs.Common.{◌≡◌, ℕ, ◌-◌, List, length, take, drop, arith, ◌∙◌, refl, length-take, length-drop}
 use Rattle.std.specs.Bool.{Decides}
 use Rattle.request_ledger.specs.Sums.{sums_of}
-use Rattle.request_ledger.specs.Format.{told_len, told_payload, is_record, head_bytes}
+use Rattle.request_ledger.specs.Format.{told_len, head_bytes}
 use Rattle.request_ledger.proofs.Found.{in_broken}
 use Rattle.request_ledger.proofs.Heads.{told_below, told_is, torn, tested, held, none_read, some_read, first_read}
 use Rattle.request_ledger.proofs.records.record_in.Goals as goal
