@@ -3,3 +3,4 @@ pub mod Ends
 pub mod Found
 pub mod Heads
 pub mod Turned
+mod Rows
