@@ -1,5 +1,5 @@
 -- The bytes of a record, and the records that are found in any bytes.
-use Rattle.std.specs.Prelude.{◌≡◌, ◌⊎◌, ℕ, zero, suc, ◌+◌, ◌^◌, ◌<◌, ◌≤◌, if◌then◌else◌, Option, Some, None, List, [], ◌∷◌, ◌++◌, length, take, drop, bytes_eq}
+use Rattle.std.specs.Prelude.{◌⊎◌, ℕ, zero, suc, ◌+◌, ◌^◌, ◌<◌, ◌≤◌, Bool, if◌then◌else◌, Option, Some, None, List, [], ◌∷◌, ◌++◌, length, take, drop, bytes_eq}
 use Rattle.std.specs.Int.{w32, to_le_bytes, from_le_bytes}
 use Rattle.request_ledger.specs.declared.sums.Sums.{Sums}
 use Rattle.request_ledger.specs.Sums.{sums_of}
@@ -23,22 +23,22 @@ told_len bytes = from_le_bytes w32 bytes
 unfoldable pub told_payload : List ℕ → List ℕ
 told_payload bytes = take (told_len bytes) (drop 12 bytes)
 
--- the payload of the record with which the bytes begin, if a whole one does: they begin as the record of what they tell
-unfoldable pub record_in : List ℕ → Option (List ℕ)
-record_in bytes =
-    if bytes_eq (take (12 + told_len bytes) bytes) (record_of (told_payload bytes))
-    then Some (told_payload bytes)
-    else None
+-- a whole record begins there: the bytes begin as the record of what they tell
+unfoldable pub is_record : List ℕ → Bool
+is_record bytes = bytes_eq (take (12 + told_len bytes) bytes) (record_of (told_payload bytes))
+
+-- its payload
+abbrev pub record_in : List ℕ → Option (List ℕ)
+record_in bytes = if is_record bytes then Some (told_payload bytes) else None
 
 -- passing over n bytes: the payloads of the records from there on, one behind the other, up to the first that isn't one
 unfoldable pub records_past : ℕ → List ℕ → List (List ℕ)
 records_past n [] = []
 records_past (suc n) (byte ∷ bytes) = records_past n bytes
 records_past zero (byte ∷ bytes) =
-    elim (record_in (byte ∷ bytes)) [
-      | Some payload ↦ payload ∷ records_past (11 + length payload) bytes
-      | None ↦ []
-    ]
+    if is_record (byte ∷ bytes)
+    then told_payload (byte ∷ bytes) ∷ records_past (11 + told_len (byte ∷ bytes)) bytes
+    else []
 
 abbrev pub records_in : List ℕ → List (List ℕ)
 records_in bytes = records_past 0 bytes

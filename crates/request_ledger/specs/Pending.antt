@@ -1,5 +1,5 @@
 -- Which spans of one trace have ended. The spans stand in the order in which they came, the oldest first.
-use Rattle.std.specs.Prelude.{◌≡◌, ◌≤◌, ℕ, zero, suc, ◌+◌, ◌-◌, nat_lt, nat_le, Bool, true, false, not, ◌&&◌, if◌then◌else◌, List, [], ◌∷◌, ◌++◌, length, replicate, bytes_eq, sum_by, count_by, slice_get, Some}
+use Rattle.std.specs.Prelude.{◌≡◌, ◌≤◌, ℕ, ◌+◌, ◌-◌, nat_lt, nat_le, Bool, true, false, not, ◌&&◌, if◌then◌else◌, List, [], ◌∷◌, ◌++◌, length, replicate, bytes_eq, sum_by, count_by, slice_get, Some}
 use Rattle.request_ledger.specs.declared.pending.LedgerSpan.{LedgerSpan}
 use Rattle.request_ledger.specs.declared.pending.TraceEnd.{TraceEnd}
 use Rattle.request_ledger.specs.declared.pending.TraceEnd.TheVariants.{Handed, Counted}

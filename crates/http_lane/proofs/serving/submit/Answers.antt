@@ -26,6 +26,27 @@ returns-then-not-count_reply g c = λ limit is_packed body is.
       },
     )
 
+pub returns-then-not-is_kept : goal.returns-then-not-is_kept
+returns-then-not-is_kept g c = λ limit is_packed body is.
+    let reply = c.submit-reply.result in
+    let cause = submitted c.args.text.now c.now-moment.result reply c.args.says_close in
+    let took = c.submit-reply.ensures in
+    let counts = c.if-not-count_reply.ensures.counts in
+    let new = intake c.submit-reply.new.self c.submit-reply.new.conn (g.Ledger.Counter.counted c.count_reply.new.counts) in (
+      cause,
+      (body, refl, is, refl),
+      record {
+        can = refl;
+        closes = refl;
+        puts = ([], Appends-none (g.Writer.Write.contents c.args.writer.now), (0, refl));
+        lane = (
+          new,
+          record { received = took.received; lane = took.lane; ports = took.ports; bad = took.bad; refused = took.refused; counts = counts },
+          refl,
+        );
+      },
+    )
+
 pub returns : goal.returns
 returns g c = λ limit is_packed body is.
     let reply = c.submit-reply.result in

@@ -1,0 +1,6 @@
+pub mod Back
+pub mod Ends
+pub mod Found
+pub mod Heads
+pub mod Turned
+mod Rows
