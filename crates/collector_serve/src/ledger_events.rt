@@ -33,7 +33,10 @@ impl LedgerKnown {
     /// What happened since the last look, if anything did: one event at a look.
     pub fn look(&mut self, charge: &Charge) -> Option<LedgerEvent> {
         let ledger = charge.board.ledger().ledger()?;
-        let written = [number("unwritten", ledger.unwritten()), number("bytes", ledger.bytes())];
+        let written = [
+            number("unwritten", ledger.unwritten()),
+            number("bytes", ledger.bytes()),
+        ];
         if self.fails != ledger.is_failing() {
             self.fails = !self.fails;
             let (level, name) = if self.fails {

@@ -27,9 +27,11 @@ impl LedgerThread {
     }
 
     /// Starts the thread. An error: none is started.
-    pub fn start<
-        T: Files<File = File> + Threads + Wait + Clock + Copy + Send + Sync + 'static,
-    >(rt: &T, keeper: Keeper<T>, charge: Arc<Charge, Global>) -> io::Result<Self> {
+    pub fn start<T: Files<File = File> + Threads + Wait + Clock + Copy + Send + Sync + 'static>(
+        rt: &T,
+        keeper: Keeper<T>,
+        charge: Arc<Charge, Global>,
+    ) -> io::Result<Self> {
         let own = *rt;
         let thread = thread::spawn(rt, move || keep(&own, keeper, &charge))?;
         Ok(LedgerThread {

@@ -200,8 +200,7 @@ fn request_text(alloc: Global, encoding: Encoding, body: &[u8]) -> Result<Vec<u8
         Encoding::Protobuf => "application/x-protobuf",
     };
     let len = body.len();
-    let head = format!(
-        in alloc;
+    let head = format!(in alloc;
         "POST /v1/traces HTTP/1.1\r\nHost: tsc\r\nContent-Type: {kind}\r\nContent-Length: {len}\r\n\r\n"
     )?;
     let mut text = Vec::with_capacity(alloc, head.len().saturating_add(len))?;

@@ -48,7 +48,6 @@ impl<'r, R: Clock> SteadyClock<'r, R> {
             board: Some(board),
         }
     }
-
 }
 
 impl<'r, R: Clock + Wait> SteadyClock<'r, R> {
@@ -81,7 +80,9 @@ impl<'r, R: Clock + Wait> Moments for SteadyClock<'r, R> {
         let Some(board) = self.board else {
             return true;
         };
-        let is_kept = board.ledger().keeps(self.rt, connection, moment, encoding, text);
+        let is_kept = board
+            .ledger()
+            .keeps(self.rt, connection, moment, encoding, text);
         if !is_kept {
             // At once, so that no further request is taken that can't be kept.
             board.ledger_stops(true);

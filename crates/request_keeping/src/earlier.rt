@@ -110,11 +110,13 @@ impl Earlier {
             let mut at = 0;
             while let Some(payload) = record_at(&bytes, at) {
                 at = at.saturating_add(HEAD_LEN).saturating_add(payload.len());
-                if let Some(LedgerNote::Again {
-                    segment,
-                    lane,
-                    place,
-                }) = note_in(payload)
+                if let Some(
+                    LedgerNote::Again {
+                        segment,
+                        lane,
+                        place,
+                    },
+                ) = note_in(payload)
                 {
                     again.insert((segment, lane, place))?;
                 }
@@ -164,7 +166,14 @@ impl Earlier {
                 continue;
             }
             let bytes = folder.read(*number)?;
-            let end = read_requests(self.alloc, *number, &bytes, again, &mut requests, &mut spans)?;
+            let end = read_requests(
+                self.alloc,
+                *number,
+                &bytes,
+                again,
+                &mut requests,
+                &mut spans,
+            )?;
             if end < bytes.len() {
                 self.cut = self.cut.saturating_add(1);
             }
@@ -234,11 +243,13 @@ fn add_end(
     payload: &[u8],
 ) -> io::Result<()> {
     let (trace, end) = match note_in(payload) {
-        Some(LedgerNote::Counted {
-            trace,
-            moment,
-            spans,
-        }) => (trace, TraceEnd::Counted { moment, spans }),
+        Some(
+            LedgerNote::Counted {
+                trace,
+                moment,
+                spans,
+            },
+        ) => (trace, TraceEnd::Counted { moment, spans }),
         Some(LedgerNote::Handed { trace, span }) => (trace, TraceEnd::Handed(span)),
         Some(LedgerNote::Again { .. }) | None => return Ok(()),
     };

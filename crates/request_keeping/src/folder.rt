@@ -116,7 +116,9 @@ impl<R: Files<File = File> + Copy> LedgerFolder<R> {
     /// Its files, by run, segment and lane; what isn't of a ledger is passed over.
     pub fn files(&self) -> io::Result<Vec<FileNumber>> {
         let path = self.path.as_str();
-        let mut folder = self.rt.open_dir(format!(in self.alloc; "{path}/")?.as_str())?;
+        let mut folder = self
+            .rt
+            .open_dir(format!(in self.alloc; "{path}/")?.as_str())?;
         let mut names = Vec::new(self.alloc);
         let mut piece = [0; 4096];
         while names.len() < LONGEST_LIST {

@@ -306,8 +306,7 @@ impl<R: Files<File = File> + Copy> Keeper<R> {
     /// Removes the files of a segment, and the notes that are of no other.
     fn remove(&mut self, closed: &ClosedSegment) -> io::Result<()> {
         for lane in 0..self.settings.lanes {
-            self.folder
-                .remove(self.number(closed.segment, Some(lane)))?;
+            self.folder.remove(self.number(closed.segment, Some(lane)))?;
         }
         self.folder.remove(self.number(closed.segment, None))?;
         Ok(())

@@ -4,9 +4,8 @@ use request_ledger::put_request;
 use span_ids::ConnKey;
 use std::alloc::Global;
 use std::fs::File;
-use std::io;
 use std::io::{ErrorKind, Write};
-use std::mem;
+use std::{io, mem};
 
 /// The most bytes of a record for which room is kept.
 const ROOM: usize = 1_048_576;

@@ -28,9 +28,16 @@ pub enum LedgerNews {
         spans: u64,
     },
     /// So many spans of a trace are on their way to the exporter.
-    Released { trace: TraceId, spans: u64 },
+    Released {
+        trace: TraceId,
+        spans: u64,
+    },
     /// The request at this place of that earlier file was received again.
-    Again { segment: u64, lane: u16, place: u64 },
+    Again {
+        segment: u64,
+        lane: u16,
+        place: u64,
+    },
 }
 
 /// What a shard told of what waits there.

@@ -28,12 +28,7 @@ impl Releases {
     }
 
     /// So many spans of a trace were released in this segment.
-    pub fn released(
-        &mut self,
-        trace: TraceId,
-        spans: u64,
-        segment: u64,
-    ) -> Result<(), AllocError> {
+    pub fn released(&mut self, trace: TraceId, spans: u64, segment: u64) -> Result<(), AllocError> {
         if let Some(way) = self.traces.get_mut(&trace) {
             way.spans = way.spans.saturating_add(spans);
             return Ok(());
