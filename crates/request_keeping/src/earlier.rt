@@ -73,10 +73,8 @@ impl Earlier {
             loaded: None,
         };
         let again = earlier.taken_again(folder)?;
-        let mut run = latest_run(&earlier.files, u64::MAX);
-        while let Some(number) = run {
-            earlier.read_run(folder, number, &again)?;
-            run = latest_run(&earlier.files, number);
+        for run in latest_first(alloc, &earlier.files)? {
+            earlier.read_run(folder, run, &again)?;
         }
         Ok(earlier)
     }
@@ -108,7 +106,10 @@ impl Earlier {
             }
             let bytes = folder.read(*number)?;
             let mut at = 0;
-            while let Some(payload) = record_at(&bytes, at) {
+            for _ in 0..bytes.len() {
+                let Some(payload) = record_at(&bytes, at) else {
+                    break;
+                };
                 at = at.saturating_add(HEAD_LEN).saturating_add(payload.len());
                 if let Some(
                     LedgerNote::Again {
@@ -143,7 +144,10 @@ impl Earlier {
             }
             let bytes = folder.read(*number)?;
             let mut at = 0;
-            while let Some(payload) = record_at(&bytes, at) {
+            for _ in 0..bytes.len() {
+                let Some(payload) = record_at(&bytes, at) else {
+                    break;
+                };
                 at = at.saturating_add(HEAD_LEN).saturating_add(payload.len());
                 add_end(self.alloc, &mut notes.ends, payload)?;
             }
@@ -225,15 +229,29 @@ impl Earlier {
     }
 }
 
-/// The latest run below this one of which there is a file.
-fn latest_run(files: &[FileNumber], below: u64) -> Option<u64> {
-    let mut latest = None;
-    for number in files {
-        if number.run < below {
-            latest = Some(number.run.max(latest.unwrap_or(0)));
+/// The runs of which there are files, the latest first.
+fn latest_first(alloc: Global, files: &[FileNumber]) -> Result<Vec<u64>, AllocError> {
+    let mut runs = Vec::new(alloc);
+    // Files stand by their runs.
+    for number in files.iter().rev() {
+        if runs.last().is_none_or(|last: &u64| *last != number.run) {
+            runs.push(number.run)?;
         }
     }
-    latest
+    Ok(runs)
+}
+
+/// What a note says of a trace, if it says something of one.
+fn end_in(payload: &[u8]) -> Option<(TraceId, TraceEnd)> {
+    match note_in(payload)? {
+        LedgerNote::Counted {
+            trace,
+            moment,
+            spans,
+        } => Some((trace, TraceEnd::Counted { moment, spans })),
+        LedgerNote::Handed { trace, span } => Some((trace, TraceEnd::Handed(span))),
+        LedgerNote::Again { .. } => None,
+    }
 }
 
 /// Adds what a note says of a trace to its ends, if it says something of one.
@@ -241,26 +259,15 @@ fn add_end(
     alloc: Global,
     ends: &mut HashMap<TraceId, Vec<TraceEnd>>,
     payload: &[u8],
-) -> io::Result<()> {
-    let (trace, end) = match note_in(payload) {
-        Some(
-            LedgerNote::Counted {
-                trace,
-                moment,
-                spans,
-            },
-        ) => (trace, TraceEnd::Counted { moment, spans }),
-        Some(LedgerNote::Handed { trace, span }) => (trace, TraceEnd::Handed(span)),
-        Some(LedgerNote::Again { .. }) | None => return Ok(()),
-    };
-    if let Some(list) = ends.get_mut(&trace) {
-        list.push(end)?;
+) -> Result<(), AllocError> {
+    let Some((trace, end)) = end_in(payload) else {
         return Ok(());
+    };
+    let of_trace = ends.entry(trace)?.or_insert(Vec::new(alloc));
+    match of_trace.push(end) {
+        Ok(()) => Ok(()),
+        Err(_) => Err(AllocError),
     }
-    let mut list = Vec::new(alloc);
-    list.push(end)?;
-    ends.insert(trace, list)?;
-    Ok(())
 }
 
 /// Reads the requests of a file, and their spans, and answers up to where it has whole records.
@@ -274,7 +281,10 @@ fn read_requests(
 ) -> io::Result<usize> {
     let lane = file.lane.unwrap_or(0);
     let mut at = 0;
-    while let Some(payload) = record_at(bytes, at) {
+    for _ in 0..bytes.len() {
+        let Some(payload) = record_at(bytes, at) else {
+            break;
+        };
         let place = at as u64;
         at = at.saturating_add(HEAD_LEN).saturating_add(payload.len());
         if again.contains(&(file.segment, lane, place)) {

@@ -5,8 +5,8 @@ use std::io::{ErrorKind, Read};
 use std::rt::Files;
 use std::{fs, io};
 
-/// The longest list of names that is read, in bytes.
-const LONGEST_LIST: usize = 67_108_864;
+/// At most so many pieces of a list of names are read.
+const LONGEST_LIST: usize = 65_536;
 
 /// A file of a ledger: of which run it is, which segment, and of which lane its requests are; or none, of what ended.
 #[derive(Clone, Copy, PartialEq, Eq)]
@@ -121,12 +121,12 @@ impl<R: Files<File = File> + Copy> LedgerFolder<R> {
             .open_dir(format!(in self.alloc; "{path}/")?.as_str())?;
         let mut names = Vec::new(self.alloc);
         let mut piece = [0; 4096];
-        while names.len() < LONGEST_LIST {
+        for _ in 0..LONGEST_LIST {
             let count = folder.read(&mut piece)?;
             if count == 0 {
                 break;
             }
-            names.extend_from_slice(&piece[..count])?;
+            names.extend_from_slice(piece.get(..count).unwrap_or(b""))?;
         }
         let mut files = Vec::new(self.alloc);
         for name in names.split(|byte| *byte == 0) {

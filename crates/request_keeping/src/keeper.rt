@@ -17,6 +17,9 @@ const SEGMENT_TIME: u64 = 10_000;
 /// With so many bytes a new segment is begun.
 const SEGMENT_BYTES: u64 = 67_108_864;
 
+/// So many bytes are left for requests that are under way when the folder is found to be full.
+const SPARE: u64 = 65_536;
+
 /// How much later than a segment's last request a trace must have been opened that is sure to have none of it, in
 /// milliseconds: a lane may push a request's spans so long after it asked for their moment.
 const MARGIN: u64 = 5_000;
@@ -123,7 +126,7 @@ impl<R: Files<File = File> + Copy> Keeper<R> {
                 self.remove_settled(ledger, &standings);
             }
         }
-        let is_full = !has_room(ledger.bytes(), SEGMENT_BYTES / 64, self.settings.max_mib);
+        let is_full = !has_room(ledger.bytes(), SPARE, self.settings.max_mib);
         ledger.shows(self.failed.is_some() || is_broken, is_full);
     }
 
@@ -283,7 +286,10 @@ impl<R: Files<File = File> + Copy> Keeper<R> {
                 closed.settled = Some(now);
             }
         }
-        while let Some(first) = self.closed.front().copied() {
+        for _ in 0..self.closed.len() {
+            let Some(first) = self.closed.front().copied() else {
+                return;
+            };
             if !self.is_over(&first) || self.remove(&first).is_err() {
                 return;
             }

@@ -24,26 +24,18 @@ pub fn mark_ended(
 ) -> Result<(), AllocError> {
     // Those of a trace together, as they came; in one moment as they stand in the files.
     spans.sort_by_key(|place| (place.trace, place.moment, place.request, place.number))?;
-    let mut from = 0;
-    while from < spans.len() {
-        let to = behind_trace(spans, from);
-        mark_trace(alloc, &spans[from..to], ends, requests)?;
-        from = to;
+    let mut of_trace = Vec::new(alloc);
+    for place in spans.iter() {
+        if !of_trace
+            .first()
+            .is_none_or(|first: &SpanPlace| first.trace == place.trace)
+        {
+            mark_trace(alloc, &of_trace, ends, requests)?;
+            of_trace.clear();
+        }
+        of_trace.push(*place)?;
     }
-    Ok(())
-}
-
-/// The place behind the spans of the trace that begin here.
-fn behind_trace(spans: &[SpanPlace], from: usize) -> usize
-    requires { from < length spans.now }
-    ensures later { from < result }
-    ensures within { result ≤ length spans.now }
-{
-    let mut to = from + 1;
-    while to < spans.len() && spans[to].trace == spans[from].trace {
-        to += 1;
-    }
-    to
+    mark_trace(alloc, &of_trace, ends, requests)
 }
 
 /// Marks which of the spans of one trace have no end.

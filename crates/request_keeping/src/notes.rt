@@ -5,9 +5,6 @@ use std::fs::File;
 use std::io;
 use std::io::{ErrorKind, Write};
 
-/// The most bytes of notes for which room is kept.
-const ROOM: usize = 1_048_576;
-
 /// The file to which notes go, and those that aren't written yet.
 #[derive(Drop)]
 pub struct Notes {
@@ -47,13 +44,12 @@ impl Notes {
         let (done, error) = write_some(file, &self.waiting);
         // What stands whole in that file is never told again: spans would be counted as ended that are not.
         let whole = whole_records(&self.waiting, done);
-        self.waiting.drain(..whole);
+        let mut left = Vec::new(self.alloc);
+        left.extend_from_slice(self.waiting.get(whole..).unwrap_or(b""))?;
+        self.waiting = left;
         if let Some(error) = error {
             self.file = None;
             return Err(error);
-        }
-        if self.waiting.capacity() > ROOM {
-            self.waiting = Vec::new(self.alloc);
         }
         Ok(())
     }
@@ -75,10 +71,14 @@ impl Notes {
 /// Writes bytes, and answers how many of them were taken, and which error came before all were.
 fn write_some(file: &mut File, bytes: &[u8]) -> (usize, Option<io::Error>) {
     let mut done = 0;
-    while done < bytes.len() {
-        match file.write(&bytes[done..]) {
+    for _ in 0..u64::MAX {
+        let rest = bytes.get(done..).unwrap_or(b"");
+        if rest.is_empty() {
+            break;
+        }
+        match file.write(rest) {
             Ok(0) => return (done, Some(io::Error::from(ErrorKind::WriteZero))),
-            Ok(count) => done = done.saturating_add(count).min(bytes.len()),
+            Ok(count) => done = done.saturating_add(count),
             Err(error) if error.kind() == ErrorKind::Interrupted => {}
             Err(error) => return (done, Some(error)),
         }
@@ -89,9 +89,12 @@ fn write_some(file: &mut File, bytes: &[u8]) -> (usize, Option<io::Error>) {
 /// How many of the first bytes are whole records within so many bytes.
 fn whole_records(bytes: &[u8], within: usize) -> usize {
     let mut whole = 0;
-    while let Some(payload) = record_at(bytes, whole) {
+    for _ in 0..bytes.len() {
+        let Some(payload) = record_at(bytes, whole) else {
+            break;
+        };
         let end = whole.saturating_add(HEAD_LEN).saturating_add(payload.len());
-        if end > within || end > bytes.len() {
+        if end > within {
             break;
         }
         whole = end;
