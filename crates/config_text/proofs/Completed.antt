@@ -1,7 +1,7 @@
 -- The steps of completing a table, one after the other.
 -- For the `ensures` of `complete`.
 use Rattle.std.proofs.Common.{◌≡◌, List, codes, refl}
-use Rattle.toml.specs.Data.{Data, Members}
+use Rattle.toml.specs.Data.{Members}
 use Rattle.config_faults.specs.Setting.{Setting}
 use Rattle.config_faults.specs.Tables.{top_settings, cache_settings, export_settings, ledger_settings}
 use Rattle.config_text.specs.Defaults.{no_sizes, defaults_of}

@@ -20,7 +20,7 @@ use Rattle.config_faults.specs.declared.keys.TableKind.TheVariants as table_is
 use Rattle.tsc_config.specs.Reading.{reading_of_table}
 use Rattle.tsc_config.specs.declared.log_form.LogForm.{LogForm}
 use Rattle.tsc_config.specs.declared.output_fault.OutputFault.{OutputFault}
-use Rattle.tsc_config.specs.Values.{bounded_of, number_by, first_found, root_wait_of, cache_size, address_of, truth_of, is_other, log_form_of, output_fault_of, export_in, export_of, ledger_sync_of, ledger_in, ledger_of, config_of}
+use Rattle.tsc_config.specs.Values.{bounded_of, number_by, first_found, cache_size, address_of, truth_of, is_other, log_form_of, output_fault_of, export_in, export_of, ledger_sync_of, ledger_in, ledger_of, config_of}
 use Rattle.tsc_config.specs.declared.exports.Export.{Export}
 use Rattle.tsc_config.specs.declared.ledger.Ledger.{Ledger}
 use Rattle.tsc_config.specs.declared.ledger.LedgerSync.{LedgerSync}
