@@ -16,8 +16,7 @@ use crate::policy_findings::add_policies;
 use crate::settings_findings::{add_rows, add_settings, add_unknown};
 use config_faults::{
     ConfigFault, NumberKey, TableKind, cache_settings, export_settings, ledger_settings, member,
-    top_settings,
-    twice_fault,
+    top_settings, twice_fault,
 };
 use policy_tree::Policies;
 use std::alloc::{AllocError, Global};
