@@ -60,7 +60,8 @@ def known():
     """Each key of the tables that the program reads by, those within tables too."""
     top = [it.key for it in table_settings("wait_settings") + table_settings("other_settings")]
     caches = [it.key for it in table_settings("cache_settings")]
-    return {*top, *caches, *(it.key for it in table_settings("export_settings")), "policies", "export"} - {"decision_cache"}
+    within = [it.key for it in table_settings("export_settings") + table_settings("ledger_settings")]
+    return {*top, *caches, *within, "policies", "export", "ledger"} - {"decision_cache"}
 
 
 def wrap(text):
@@ -85,11 +86,11 @@ def configuration():
         raise SystemExit(f"packaging/keys.toml hasn't the types {', '.join(policy_types())}, in this order")
     parts = [HEAD]
     for it in words["table"]:
-        is_export = it.get("export", False)
-        head = ["| Key | Range | Default |", "|---|---|---|"] if is_export else ["| Key | Range | Default | In the Collector |", "|---|---|---|---|"]
-        rows = [row(key, not is_export) for key in it["key"]]
+        with_collector = "collector" in it["key"][0]
+        head = ["| Key | Range | Default | In the Collector |", "|---|---|---|---|"] if with_collector else ["| Key | Range | Default |", "|---|---|---|"]
+        rows = [row(key, with_collector) for key in it["key"]]
         parts += [f"## {it['title']}\n", wrap(it["says"]) + "\n", "\n".join(head + rows) + "\n"]
-        parts += [HEADERS + "\n"] if is_export else []
+        parts += [HEADERS + "\n"] if it.get("export", False) else []
     rows = [f"| `{it['type']}` | {it.get('settings', 'none')} | {it.get('range', '')} | {it.get('default', '')} |" for it in words["policy"]]
     parts += [TYPES + "\n", "\n".join(["| Type | Settings | Range | Default |", "|---|---|---|---|", *rows]) + "\n"]
     return "\n".join(parts)

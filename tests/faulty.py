@@ -22,7 +22,7 @@ SAME_NAME = f"policies: two policies of one list have the same name{FOLLOWS} (fa
 TYPES = ", ".join(policy_types())
 NO_LISTENER = "listen: no address: HOST:PORT, [IPV6]:PORT or :PORT is wanted (cannot listen)"
 NO_BACKEND = "export.endpoint: no address: HOST:PORT, with a port from 1 to 65535, is wanted behind http:// (cannot send)"
-TABLES = ("decision_cache", "export")
+TABLES = ("decision_cache", "export", "ledger")
 WANTED = {"Integer": "a whole number is wanted", "Text": "a text is wanted", "Choice": "a text is wanted", "LogForm": "a text is wanted", "OutputFault": "a text is wanted", "ErrorMode": "a text is wanted", "Truth": "true or false is wanted"}
 
 NO_NAME, NO_CHARACTER = "no path, function or enumeration has this name", "no value, name or operator begins with this character"
@@ -155,6 +155,20 @@ ROWS = [
         "export.queue_batches: 65537 is not from 1 to 65536 (fault 5)",
         'export.encoding: "protobuf" is none of json, proto (fault 5)',
         "export.headers: a name or a text that can't be sent, or a field that is the collector's own (fault 5)",
+    ]),
+    ("where requests wait", f"ledger = {{ sync = \"always\", sync_interval = 1, sync_interval_ms = 0, max_mib = 1048577 }}\n{POLICIES}", [
+        "ledger.sync_interval: no such key; `sync_interval_ms` is (fault 2)",
+        "ledger.path: missing (fault 3)",
+        'ledger.sync: "always" is none of none, interval, request (fault 5)',
+        "ledger.sync_interval_ms: 0 is not from 1 to 60000 (fault 5)",
+        "ledger.max_mib: 1048577 is not from 1 to 1048576 (fault 5)",
+    ]),
+    ("where requests wait, by other types", f"ledger = {{ path = 1, sync = 2, sync_interval_ms = \"1\", max_mib = 0.5 }}\nledgers = {{}}\n{POLICIES}", [
+        "ledgers: no such key; `ledger` is (fault 2)",
+        "ledger.path: a text is wanted (fault 4)",
+        "ledger.sync: a text is wanted (fault 4)",
+        "ledger.sync_interval_ms: a whole number is wanted (fault 4)",
+        "ledger.max_mib: a whole number is wanted (fault 4)",
     ]),
     ("fields of another type", f"export = {{ headers = {{ Host = \"h\", a = 1 }} }}\n{POLICIES}", ["export.endpoint: missing (fault 3)", "export.headers: a table of texts is wanted (fault 4)"]),
     ("no table of fields", f"export = {{ endpoint = \"http://h:1/\", headers = [\"a\"] }}\n{POLICIES}", ["export.headers: a table of texts is wanted (fault 4)"]),

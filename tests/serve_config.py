@@ -6,17 +6,19 @@ import subprocess
 import tomllib
 
 from collector import ALL, PATIENCE, asked, free_port, get, want
-from settings import PAGE, TOP, cache_numbers, export_numbers, export_truths, other_names, page_empty_texts, page_numbers
+from settings import PAGE, TOP, cache_numbers, other_names, page_empty_texts, page_numbers
+from tables import table_settings
 
-CACHES, ROOT_WAIT = "decision_cache", "root_wait_ms"
+CACHES, ROOT_WAIT, WITHOUT_DEFAULT = "decision_cache", "root_wait_ms", ("export", "ledger")
 
 
 def defaults():
-    """The default of each key by docs/CONFIGURATION.md that has one: those of the table of caches within it, and those of `export` left out."""
+    """The default of each key by docs/CONFIGURATION.md that has one: those of the table of caches within it, and those of the tables that have none left out."""
+    within = {it.key for table in WITHOUT_DEFAULT for it in table_settings(f"{table}_settings")}
     numbers = {key: rows[0][0] for key, rows in page_numbers().items()}
-    top = {key: number for key, number in numbers.items() if key not in cache_numbers() | export_numbers() and key not in other_names()}
+    top = {key: number for key, number in numbers.items() if key not in cache_numbers().keys() | within | other_names()}
     others = re.findall(r"^\| `(\w+)`: [^|]* \| (?:true or false|`\w+` \([^|]*) \| (`\w+`|false)[^|]* \|", PAGE.read_text(), re.M)
-    top |= {key: text.strip("`") if text.startswith("`") else False for key, text in others if key not in export_truths()}
+    top |= {key: text.strip("`") if text.startswith("`") else False for key, text in others if key not in within}
     top |= {key: "" for key in page_empty_texts()}
     return top | {CACHES: {key: numbers[key] for key in cache_numbers()}}
 
@@ -30,16 +32,16 @@ def with_defaults(settings):
 
 
 def examples():
-    """Texts without `listen`, `admin`, `metrics`, `output`, `decisions` and `record`: one that sets next to nothing, one that sets parts of tables and the other name of a key, and two examples."""
+    """Texts without `listen`, `admin`, `metrics`, `output`, `decisions`, `record`, `export` and `ledger`: one that sets next to nothing, one that sets parts of tables and the other name of a key, and two examples."""
     yield ALL
     yield 'decision_wait_after_root_received_ms = 7\nnum_traces = 9\nqueue_full = "retry"\n' + ALL + f"[{CACHES}]\nnon_sampled_cache_size = 3\n"
     yield 'root_wait_ms = 1\nclose_at_end_of_input = false\n"tick_ms" = 0x10\n' + ALL.replace("all", "a\\u00fc\\\"b")
     for name in ("serve", "every_key"):
         lines = (TOP / f"examples/{name}.toml").read_text().splitlines(keepends=True)
-        export = next((number for number, line in enumerate(lines) if line.startswith("[export]")), None)
-        if export is not None:
-            behind = next((number for number, line in enumerate(lines) if number > export and line.startswith("[")), len(lines))
-            del lines[export:behind]
+        for table in WITHOUT_DEFAULT:
+            first = next((number for number, line in enumerate(lines) if line.startswith(f"[{table}]")), len(lines))
+            behind = next((number for number, line in enumerate(lines) if number > first and line.startswith("[")), len(lines))
+            del lines[first:behind]
         yield "".join(line for line in lines if not line.startswith(("listen ", "admin ", "metrics ", "output ", "decisions ", "record ", "close_at_end_of_input ")))
 
 

@@ -16,7 +16,7 @@ TOP = Path(__file__).resolve().parent.parent
 PAGE = TOP / "docs/CONFIGURATION.md"
 DEFINITION = TOP / "crates/tsc_config/specs/Settings.antt"
 CACHES = "decision_cache"
-EXPORT = "export"
+EXPORT, LEDGER = "export", "ledger"
 
 
 def bounds(text):
@@ -42,10 +42,21 @@ def cache_numbers():
     return {key: bounds(row) for key in re.findall(r'^  pub \w+ : IsCacheSize members \(codes "(\w+)"\) ', text, re.M)}
 
 
-def export_numbers():
-    """The same of each key of a whole number of the table `export`."""
-    rows = re.findall(r'^  pub \w+ : IsNumberAt given \(codes "(\w+)"\) (\d+ \d+ \d+) ', DEFINITION.read_text(), re.M)
+def numbers_within(record):
+    """The same of each key of a whole number of the table that this record of the definition is about."""
+    lines = re.search(rf"^pub record {record} .*\n((?:  pub .*\n)+)", DEFINITION.read_text(), re.M)[1]
+    rows = re.findall(r'^  pub \w+ : IsNumberAt given \(codes "(\w+)"\) (\d+ \d+ \d+) ', lines, re.M)
     return {key: bounds(row) for key, row in rows}
+
+
+def export_numbers():
+    """The same of the table `export`."""
+    return numbers_within("HasExport")
+
+
+def ledger_numbers():
+    """The same of the table `ledger`."""
+    return numbers_within("HasLedger")
 
 
 def page_numbers():
@@ -57,11 +68,6 @@ def page_numbers():
             if key != CACHES:
                 found.setdefault(key, []).append(bounds(f"{row.group(4)} {row.group(2)} {row.group(3)}"))
     return found
-
-
-def export_truths():
-    """The keys of `export` that are truth values."""
-    return set(re.findall(r'^  pub \w+ : IsTruthAt given \(codes "(\w+)"\) ', DEFINITION.read_text(), re.M))
 
 
 def texts_at(table):
@@ -120,9 +126,9 @@ def type_differences():
 def differences():
     """A line for each difference."""
     yield from type_differences()
-    wanted = top_numbers() | cache_numbers() | export_numbers()
+    wanted = top_numbers() | cache_numbers() | export_numbers() | ledger_numbers()
     said = page_numbers()
-    if not top_numbers() or not cache_numbers() or not export_numbers():
+    if not top_numbers() or not cache_numbers() or not export_numbers() or not ledger_numbers():
         yield f"{DEFINITION} has no rows"
     for key in sorted(wanted.keys() | said.keys()):
         if said.get(key) != [wanted.get(key)]:
@@ -132,10 +138,11 @@ def differences():
             yield f"docs/CONFIGURATION.md has {page_others().get(key)} for {key}, whose values are {', '.join(values)} (default, values told)"
     yield from (f"docs/CONFIGURATION.md and the definition differ in {key}, whether it is empty by default" for key in sorted(empty_texts() ^ set(page_empty_texts())))
     example = tomllib.loads((TOP / "examples/every_key.toml").read_text())
-    for place, keys in ((example, top_numbers()), (example.get(CACHES, {}), cache_numbers()), (example.get(EXPORT, {}), export_numbers())):
+    tables = {CACHES: cache_numbers(), EXPORT: export_numbers(), LEDGER: ledger_numbers()}
+    for place, keys in ((example, top_numbers()), *((example.get(name, {}), numbers) for name, numbers in tables.items())):
         numbers = {key for key, value in place.items() if type(value) is int}
         yield from (f"examples/every_key.toml and the definition differ in {key}" for key in sorted(numbers ^ (keys.keys() - other_names())))
-    yield from (f"examples/every_key.toml has no {key}" for key in sorted((other_keys().keys() | empty_texts()) - example.keys() - example.get(EXPORT, {}).keys()))
+    yield from (f"examples/every_key.toml has no {key}" for key in sorted((other_keys().keys() | empty_texts()) - example.keys() - example.get(EXPORT, {}).keys() - example.get(LEDGER, {}).keys()))
 
 
 if __name__ == "__main__":

@@ -56,8 +56,8 @@ def table_settings(name):
             found.append(Setting(key, "Integer", least, greatest, False))
         elif text := re.match(r"(choice|text)_setting \w+_is\.(\w+)$", row):
             found.append(Setting(text_keys()[text[2]], text[1].capitalize(), None, None, False))
-        elif form := re.match(r"(log|output_fault)_setting text_is\.(\w+)$", row):
-            found.append(Setting(text_keys()[form[2]], {"log": "LogForm", "output_fault": "OutputFault"}[form[1]], None, None, False))
+        elif form := re.match(r"(log|output_fault|ledger_sync)_setting text_is\.(\w+)$", row):
+            found.append(Setting(text_keys()[form[2]], {"log": "LogForm", "output_fault": "OutputFault", "ledger_sync": "LedgerSync"}[form[1]], None, None, False))
         elif switch := re.match(r'switch \(codes "(\w+)"\)$', row):
             found.append(Setting(switch[1], "Truth", None, None, False))
         elif other := re.match(r'(required|optional|defaulted) \(codes "(\w+)"\) value_is\.(\w+)', row):

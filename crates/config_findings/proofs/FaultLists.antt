@@ -12,11 +12,11 @@ use Rattle.policy_tree.specs.Faults.{fault_of_policies}
 use Rattle.policy_tree.specs.declared.fault.PolicyFault.{PolicyFault}
 use Rattle.policy_tree.specs.declared.policy.Join.{Join}
 use Rattle.policy_tree.specs.declared.policy.Join.TheVariants as join_is
-use Rattle.config_faults.specs.Tables.{top_settings, cache_settings, export_settings}
+use Rattle.config_faults.specs.Tables.{top_settings, cache_settings, export_settings, ledger_settings}
 use Rattle.config_faults.specs.PolicyTypes.{type_name, settings}
 use Rattle.config_faults.specs.Keys.{has_unknown_key, is_key, type_at, join_type, join_name, sub_key, join_at}
 use Rattle.config_faults.specs.Faults.{required, unknown_fault, text_fault, type_fault, item_fault, wanted_fault, order_fault, twice_fault}
-use Rattle.tsc_config.specs.FaultSets.{IsLeastOf, OptionalHas, RequiredHas, SomeItemHas, ValueHas, KeyHas, SomeSettingHas, TableHas, RowsHave, SettingsHave, SettingsAtHave, TypedHas, PolicyTableHas, PoliciesHave, SomePolicyHas, PolicyHas, PartsHave, PartsSettingsHave, SubPoliciesHave, SubValueHas, CacheHas, ExportHas, HasFault, SomeIsNone, DocumentHas, TextHas}
+use Rattle.tsc_config.specs.FaultSets.{IsLeastOf, OptionalHas, RequiredHas, SomeItemHas, ValueHas, KeyHas, SomeSettingHas, TableHas, RowsHave, SettingsHave, SettingsAtHave, TypedHas, PolicyTableHas, PoliciesHave, SomePolicyHas, PolicyHas, PartsHave, PartsSettingsHave, SubPoliciesHave, SubValueHas, CacheHas, ExportHas, LedgerHas, HasFault, SomeIsNone, DocumentHas, TextHas}
 use Rattle.config_findings.specs.FaultLists as spec
 use Rattle.config_findings.specs.FaultLists.{ListsAll, listed, unknown_faults, items_faults, value_faults, optional_faults, required_faults, setting_faults, rows_faults, settings_faults, head_settings, is_joined, typed_faults, own_faults, policy_table_faults, table_faults, of_policies, expressions_faults, of_expressions, given_faults, document_faults, text_faults}
 use Rattle.config_faults.specs.Setting.{Setting}
@@ -239,9 +239,11 @@ table_all members =
     (both (SomeSettingHas top_settings members) _ _ _ (rows_all top_settings members)
     (both (OptionalHas CacheHas (get_member (codes "decision_cache") members)) _ _ _
     (optional_all CacheHas (settings_faults table_is.DecisionCache cache_settings) (table_of_all table_is.DecisionCache cache_settings) (get_member (codes "decision_cache") members))
-    (both (OptionalHas ExportHas (get_member (codes "export") members)) (RequiredHas PoliciesHave (get_member (codes "policies") members)) _ _
+    (both (OptionalHas ExportHas (get_member (codes "export") members)) _ _ _
     (optional_all ExportHas (settings_faults table_is.Export export_settings) (table_of_all table_is.Export export_settings) (get_member (codes "export") members))
-    (required_all PoliciesHave spec.policies_faults policies_all (get_member (codes "policies") members)))))
+    (both (OptionalHas LedgerHas (get_member (codes "ledger") members)) (RequiredHas PoliciesHave (get_member (codes "policies") members)) _ _
+    (optional_all LedgerHas (settings_faults table_is.Ledger ledger_settings) (table_of_all table_is.Ledger ledger_settings) (get_member (codes "ledger") members))
+    (required_all PoliciesHave spec.policies_faults policies_all (get_member (codes "policies") members))))))
 
 few_all : (few : Type 0) (r : Bool) → (r ≡ true → few) → (few → r ≡ true) → ListsAll (λ fault. (fault ≡ TooFewTraces) × few) (if r then TooFewTraces ∷ [] else [])
 few_all few true to from fault = (λ c. ((one TooFewTraces fault).0 c, to refl), λ h. (one TooFewTraces fault).1 h.0)

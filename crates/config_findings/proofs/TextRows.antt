@@ -1,5 +1,5 @@
 -- Worked rows: places in a text. No clause needs them: they show what `Texts` says, which code and contracts follow.
-use Rattle.std.proofs.Common.{◌≡◌, ℕ, List, [], ◌∷◌, ◌++◌, map, codes, refl}
+use Rattle.std.proofs.Common.{◌≡◌, [], ◌∷◌, map, codes, refl}
 use Rattle.config_faults.specs.declared.keys.TableKind.TheVariants as table_is
 use Rattle.config_findings.specs.Texts.{no_key_text, place_from}
 

@@ -13,7 +13,7 @@ use Rattle.policy_tree.specs.declared.policy.Join.{Join}
 use Rattle.policy_tree.specs.declared.policy.Join.TheVariants as join_is
 use Rattle.config_faults.specs.Setting.{Setting, required}
 use Rattle.config_faults.specs.PolicyTypes.{settings, type_name}
-use Rattle.config_faults.specs.Tables.{top_settings, cache_settings, export_settings}
+use Rattle.config_faults.specs.Tables.{top_settings, cache_settings, export_settings, ledger_settings}
 use Rattle.config_faults.specs.Keys.{is_key, type_at, join_type, join_name, sub_key, join_at}
 use Rattle.config_faults.specs.Faults.{item_fault, wanted_fault, order_fault, twice_fault}
 use Rattle.tsc_config.specs.Reading.{is_one, is_one_as, expressions_among}
@@ -162,7 +162,8 @@ abbrev pub tables_faults : Members → List ConfigFault
 tables_faults members =
     optional_faults (settings_faults table_is.DecisionCache cache_settings) (get_member (codes "decision_cache") members)
     ++ (optional_faults (settings_faults table_is.Export export_settings) (get_member (codes "export") members)
-    ++ required_faults policies_faults (get_member (codes "policies") members))
+    ++ (optional_faults (settings_faults table_is.Ledger ledger_settings) (get_member (codes "ledger") members)
+    ++ required_faults policies_faults (get_member (codes "policies") members)))
 
 -- the faults of the table of a configuration
 abbrev pub table_faults : Members → List ConfigFault

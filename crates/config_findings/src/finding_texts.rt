@@ -128,6 +128,9 @@ pub fn value_text(
         ValueKind::OutputFault => {
             format!(in alloc; "{place}: {value} is none of discard, stop, retry")
         }
+        ValueKind::LedgerSync => {
+            format!(in alloc; "{place}: {value} is none of none, interval, request")
+        }
         ValueKind::ErrorMode => {
             format!(in alloc; "{place}: {value} is none of ignore, silent, propagate")
         }
@@ -172,6 +175,7 @@ fn type_text(wanted: ValueKind) -> &'static str {
         | ValueKind::Choice(_)
         | ValueKind::LogForm
         | ValueKind::OutputFault
+        | ValueKind::LedgerSync
         | ValueKind::ErrorMode => "a text",
         ValueKind::Percentage => "a number",
         ValueKind::Array(_) => "an array",

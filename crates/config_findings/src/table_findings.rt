@@ -15,8 +15,8 @@ use crate::findings::{ConfigFinding, Findings};
 use crate::policy_findings::add_policies;
 use crate::settings_findings::{add_rows, add_settings, add_unknown};
 use config_faults::{
-    ConfigFault, NumberKey, TableKind, cache_settings, export_settings, member, top_settings,
-    twice_fault,
+    ConfigFault, NumberKey, TableKind, cache_settings, export_settings, ledger_settings, member,
+    top_settings, twice_fault,
 };
 use policy_tree::Policies;
 use std::alloc::{AllocError, Global};
@@ -153,6 +153,10 @@ fn add_tables(alloc: Global, table: &Table, findings: &mut Findings) -> Result<(
     if let Some(value) = member(table, "export") {
         let kind = TableKind::Export;
         add_settings(alloc, "export", kind, &export_settings(), value, findings)?;
+    }
+    if let Some(value) = member(table, "ledger") {
+        let kind = TableKind::Ledger;
+        add_settings(alloc, "ledger", kind, &ledger_settings(), value, findings)?;
     }
     match member(table, "policies") {
         Some(value) => add_policies(alloc, value, findings),

@@ -109,7 +109,8 @@ partly =
     member (codes "decision_cache") (table (member (codes "sampled_cache_size") (integer (pos 7)) no_members))
     (member (codes "decision_wait_after_root_received_ms") (integer (pos 9))
     (member (codes "export") (table (member (codes "endpoint") (string (codes "http://a/b")) (member (codes "retry_for_ms") (integer (pos 5)) no_members)))
-    (member (codes "num_traces") (integer (pos 6)) no_members)))
+    (member (codes "ledger") (table (member (codes "max_mib") (integer (pos 8)) (member (codes "path") (string (codes "f")) no_members)))
+    (member (codes "num_traces") (integer (pos 6)) no_members))))
 
 partly_traces : get_member (codes "num_traces") (with_defaults partly) ≡ Some (integer (pos 6))
 unfolding with_defaults partly
@@ -144,3 +145,8 @@ partly_export : get_member (codes "export") (with_defaults partly)
     (member (codes "timeout_ms") (integer (pos 10000)) no_members))))))))))
 unfolding with_defaults partly
 partly_export = refl
+
+partly_ledger : get_member (codes "ledger") (with_defaults partly)
+    ≡ Some (table (member (codes "max_mib") (integer (pos 8)) (member (codes "path") (string (codes "f")) (member (codes "sync") (string (codes "none")) (member (codes "sync_interval_ms") (integer (pos 1000)) no_members)))))
+unfolding with_defaults partly
+partly_ledger = refl

@@ -3,7 +3,7 @@ use Rattle.std.specs.Prelude.{ℕ, pos, List, [], ◌∷◌, codes, Option, None
 use Rattle.toml.specs.Data.{Data, integer, table, no_members}
 use Rattle.config_text.specs.Members.{Default}
 use Rattle.config_faults.specs.Setting.{Setting}
-use Rattle.config_faults.specs.Tables.{number_row, top_settings, cache_settings, export_settings}
+use Rattle.config_faults.specs.Tables.{number_row, top_settings, cache_settings, export_settings, ledger_settings}
 use Rattle.config_faults.specs.declared.tables.NumberKey.{NumberKey}
 
 -- a whole number, as the table of the keys of whole numbers has it
@@ -24,8 +24,8 @@ defaults_of (s ∷ rest) = default_before s.name s.default (defaults_of rest)
 abbrev pub no_sizes : Default
 no_sizes = record { name = codes "decision_cache"; value = table no_members }
 
--- the keys of the table of a configuration, but for the wait from a trace's root on, which has two names; `admin` and
--- `export` have no default, and `policies` is required
+-- the keys of the table of a configuration, but for the wait from a trace's root on, which has two names; `admin`,
+-- `export` and `ledger` have no default, and `policies` is required
 abbrev pub defaults : List Default
 defaults = no_sizes ∷ defaults_of top_settings
 
@@ -36,3 +36,7 @@ cache_defaults = defaults_of cache_settings
 -- the keys of the table of `export`, but for the address, which is required, and `headers`, which have no default
 abbrev pub export_defaults : List Default
 export_defaults = defaults_of export_settings
+
+-- the keys of the table of `ledger`, but for the folder, which is required
+abbrev pub ledger_defaults : List Default
+ledger_defaults = defaults_of ledger_settings

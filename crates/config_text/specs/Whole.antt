@@ -8,7 +8,7 @@ use Rattle.toml.specs.Parse.{parse_document}
 use Rattle.config_faults.specs.Tables.{number_row}
 use Rattle.config_faults.specs.declared.tables.NumberKey.TheVariants as number_is
 use Rattle.config_text.specs.Members.{Default, with_default, with_each, with_inner}
-use Rattle.config_text.specs.Defaults.{number_default, defaults, cache_defaults, export_defaults}
+use Rattle.config_text.specs.Defaults.{number_default, defaults, cache_defaults, export_defaults, ledger_defaults}
 
 -- the wait from a trace's root on, where nothing stands at its other name
 abbrev pub with_root_wait : Members → Members
@@ -16,7 +16,8 @@ with_root_wait members = if is_some (get_member (number_row number_is.RootReceiv
 
 -- the table of a configuration with its defaults
 unfoldable pub with_defaults : Members → Members
-with_defaults members = with_inner (codes "export") export_defaults (with_inner (codes "decision_cache") cache_defaults (with_each defaults (with_root_wait members)))
+with_defaults members =
+    with_inner (codes "ledger") ledger_defaults (with_inner (codes "export") export_defaults (with_inner (codes "decision_cache") cache_defaults (with_each defaults (with_root_wait members))))
 
 -- something stands at the key of each of these defaults
 abbrev pub HasEach : List Default → Members → Type 0
@@ -28,6 +29,7 @@ pub record IsWhole (members : Members) : Type 0 where
   pub root_wait : is_some (get_member (number_row number_is.RootWait).name members) || is_some (get_member (number_row number_is.RootReceived).name members) ≡ true
   pub caches : (sizes : Members) → get_member (codes "decision_cache") members ≡ Some (table sizes) → HasEach cache_defaults sizes
   pub export : (given : Members) → get_member (codes "export") members ≡ Some (table given) → HasEach export_defaults given
+  pub ledger : (given : Members) → get_member (codes "ledger") members ≡ Some (table given) → HasEach ledger_defaults given
 
 -- a table that can be written and read again: it nests at most 80 deep, as the reader wants it, and has no date that a
 -- text can't have

@@ -7,7 +7,9 @@ ghost use Rattle.config_text.specs.Whole.{IsTextWithDefaults, IsWritable, TellsE
 
 use crate::depth::members_are_within;
 use crate::filling::{put_default, put_each, put_empty, put_inner};
-use config_faults::{NumberKey, cache_settings, export_settings, member, top_settings};
+use config_faults::{
+    NumberKey, cache_settings, export_settings, ledger_settings, member, top_settings,
+};
 use std::alloc::{AllocError, Global};
 use toml::ser::Error;
 use toml::{Table, Value};
@@ -17,8 +19,8 @@ const DEEPEST: u32 = 80;
 
 /// The settings that are in force by a configuration of this text, as a text that is read as the same configuration:
 /// what it says, in the order of its keys and without its comments, and each key that has a default with that, where it
-/// isn't there. Policies stay as they are; `admin` and `export`, which have no default, aren't added, and of the two
-/// names of the wait from a trace's root on the one that is there stays.
+/// isn't there. Policies stay as they are; `admin`, `export` and `ledger`, which have no default, aren't added, and of
+/// the two names of the wait from a trace's root on the one that is there stays.
 ///
 /// A text that is no TOML, or whose tables nest deeper than 80 (policies nest 8 deep), is given as it is. `Err`
 /// where memory is refused.
@@ -55,6 +57,7 @@ fn complete(alloc: Global, table: &mut Table) -> Result<(), AllocError>
     put_each(alloc, table, &top_settings())?;
     put_inner(alloc, table, "decision_cache", &cache_settings())?;
     put_inner(alloc, table, "export", &export_settings())?;
+    put_inner(alloc, table, "ledger", &ledger_settings())?;
     Ok(())
 }
 

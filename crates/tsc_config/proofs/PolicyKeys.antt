@@ -1,7 +1,7 @@
 -- Each policy has what stands at the keys of its table.
 -- For `policies_are_of_their_keys`.
-use Rattle.std.proofs.Common.{◌≡◌, ℕ, ◌+◌, pos, negsuc, zero, suc, Bool, true, false, ◌⊎◌, inl, inr, refl, ap, sym, subst, ◌∙◌, arith, codes, List, [], ◌∷◌, map, length, slice_get, Option, None, Some, if◌then◌else◌, Ordering, Less, Equal, Greater}
-use Rattle.toml.specs.Data.{Data, string, array, table, Items, no_items, item, Members, no_members, member, get_member, get_item}
+use Rattle.std.proofs.Common.{◌≡◌, ℕ, pos, negsuc, zero, suc, Bool, true, false, ◌⊎◌, inl, inr, refl, ap, sym, subst, ◌∙◌, codes, List, [], ◌∷◌, map, length, slice_get, Option, None, Some, if◌then◌else◌}
+use Rattle.toml.specs.Data.{Data, string, array, table, Items, no_items, item, Members, get_member, get_item}
 use Rattle.policy_tree.specs.declared.limit.Limit.TheVariants.{Spans, Bytes}
 use Rattle.policy_tree.specs.declared.policy.Policy.{Policy}
 use Rattle.policy_tree.specs.declared.policy.PolicyKind.{PolicyKind}
@@ -24,7 +24,7 @@ use Rattle.config_faults.specs.Keys.{type_named, type_found, type_at, join_type,
 use Rattle.config_faults.specs.Composites.{is_ordered}
 use Rattle.config_faults.specs.Faults.{optional, required, order_fault, allocation_fault, unknown_fault, natural_fault, text_fault, error_mode_fault, named_fault, array_fault, type_fault, percentage_fault, truth_fault, whole_fault, code_fault, rows_fault, settings_fault, settings_at_fault, typed_fault_where, policy_table_fault, policy_fault, policy_items_fault, policies_fault, typed_fault, parts_fault, parts_settings_fault, sub_policies_fault, sub_value_fault, table_fault, least}
 use Rattle.tsc_config.specs.PolicyOrder.{found_before, ordered}
-use Rattle.tsc_config.specs.Values.{natural_of, items_at, within_share, found_unless, order_of, composite_of, truth_of, attribute, leaf_in, kind_in, always, kind_by, kind_typed, policy_of, item_policies, policies_of, parts_policies, parts_settings, sub_policies, sub_value, policy_value, config_of}
+use Rattle.tsc_config.specs.Values.{natural_of, items_at, within_share, found_unless, order_of, composite_of, truth_of, attribute, leaf_in, kind_in, always, kind_by, kind_typed, policy_of, item_policies, policies_of, parts_policies, parts_settings, sub_value, policy_value, config_of}
 use Rattle.tsc_config.specs.PolicyKeys.{IsText, IsComposite, unshared, IsTyped, IsWanted, IsLeaf, IsLayer, IsKind, IsPolicy, ArePartsAt, items_of, part_items, asked_items, settings_items, nested_items, value_at, parts_in, parts_of, parts_at, policy_at, HasPolicies, HasMatched, ReadsPolicies}
 use Rattle.config_faults.specs.declared.fault.ConfigFault.{ConfigFault}
 use Rattle.config_faults.specs.declared.fault.ConfigFault.TheVariants.{MissingKey, OutOfRange}

@@ -1,7 +1,7 @@
 -- The numbers of a configuration's settings, computed on the definitions: each key's default, and its least and
 -- greatest number. No clause needs them: they show what the words of `Values` say, which code and contracts follow. The
 -- table below repeats no definition.
-use Rattle.std.specs.Prelude.{◌≡◌, ℕ, ℤ, pos, Bool, true, false, List, [], ◌∷◌, map, length, codes, Option, Some, None, refl}
+use Rattle.std.specs.Prelude.{◌≡◌, ℕ, pos, Bool, true, false, List, [], ◌∷◌, map, length, codes, Some, None, refl}
 use Rattle.toml.specs.Data.{Data, string, integer, boolean, array, table, Items, no_items, item, Members, no_members, member}
 use Rattle.config_faults.proofs.Rows.{Range, ranges, cache_ranges, ledger_ranges, one_key, one_text, matching}
 use Rattle.config_faults.specs.declared.policy_types.PolicyType.TheVariants as type_is

@@ -22,11 +22,8 @@ use Rattle.config_faults.specs.Exports.{is_endpoint}
 use Rattle.tsc_config.specs.HeaderFields.{value_of, fields_in, headers_of, AreFields}
 use Rattle.config_faults.specs.Headers.{may_be_sent}
 use Rattle.tsc_config.specs.Settings.{IsNumberAtEither, IsTextAt, IsTruthAt, IsChoiceAt, IsLogAt, IsOutputFaultAt, AreHeadersAt, IsEncodingAt, HasExport, IsExportAt, IsLedgerSyncAt, HasLedger, IsLedgerAt, HasSettings, ReadsSettings}
-use Rattle.tsc_config.specs.declared.log_form.LogForm.{LogForm}
 use Rattle.tsc_config.specs.declared.log_form.LogForm.TheVariants as log_is
-use Rattle.tsc_config.specs.declared.output_fault.OutputFault.{OutputFault}
 use Rattle.tsc_config.specs.declared.output_fault.OutputFault.TheVariants as output_is
-use Rattle.tsc_config.specs.declared.ledger.LedgerSync.{LedgerSync}
 use Rattle.tsc_config.specs.declared.ledger.LedgerSync.TheVariants as sync_is
 use Rattle.tsc_config.specs.Values.{config_of, bounded_of, number_by, natural_of, first_found, cache_size, address_of, truth_of, is_other, log_form_of, output_fault_of, text_of, number_or, encoding_by, export_in, export_of, ledger_sync_of, ledger_in, ledger_of}
 use Rattle.tsc_config.specs.declared.config.Config.{Config}

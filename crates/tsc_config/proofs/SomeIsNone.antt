@@ -1,6 +1,6 @@
 -- An expression among some is none just where the test of them says so.
 -- For the contracts of `answers_least_fault` here and of `lists_each_fault` in `config_findings`.
-use Rattle.std.proofs.Common.{◌≡◌, ℕ, zero, suc, Bool, true, false, ◌⊎◌, inl, inr, refl, not, ◌||◌, arith, List, [], ◌∷◌}
+use Rattle.std.proofs.Common.{◌≡◌, zero, suc, Bool, true, false, ◌⊎◌, inl, inr, refl, not, ◌||◌, arith, List, [], ◌∷◌}
 use Rattle.policy_tree.specs.declared.expressions.PolicyExpression.{PolicyExpression}
 use Rattle.tsc_config.specs.FaultSets.{SomeIsNone}
 use Rattle.tsc_config.specs.Reading.{is_one, some_is_none}

@@ -1,6 +1,6 @@
 -- What each policy has from its table, key by key, for each type of policy: what stands at the key, or the key's
 -- default.
-use Rattle.std.specs.Prelude.{◌≡◌, ℕ, ◌+◌, ◌*◌, ◌≤◌, min, ℤ, pos, negsuc, Bool, true, false, List, [], ◌∷◌, map, length, slice_get, ◌⊎◌, codes, Option, Some, None, Ok}
+use Rattle.std.specs.Prelude.{◌≡◌, ℕ, ◌*◌, ◌≤◌, min, ℤ, pos, negsuc, Bool, true, false, List, [], ◌∷◌, map, length, slice_get, ◌⊎◌, codes, Option, Some, None, Ok}
 use Rattle.std.specs.Float.{Float}
 use lib.Ieee.{eq}
 use Rattle.toml.specs.Data.{Data, string, integer, float, boolean, array, table, Items, no_items, item, Members, get_member, get_item}
