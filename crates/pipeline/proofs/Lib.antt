@@ -6,4 +6,5 @@ pub mod Gathered
 pub mod JobsSent
 pub mod SinkWent
 pub mod Told
+pub mod Watched
 pub mod Worked
