@@ -1,19 +1,68 @@
 -- What ends do to the flags of spans.
 -- For the contracts of `end_oldest`, `nothing_ends_twice` and `ended_stay_ended`.
-use Rattle.std.proofs.Common.{◌≡◌, ℕ, zero, suc, ◌+◌, ◌-◌, ◌<◌, ◌≤◌, Bool, true, false, Some, List, [], ◌∷◌, ◌++◌, length, replicate, refl, sym, ◌∙◌, ap, subst, ⊎_elim, arith}
+use Rattle.std.proofs.Common.{◌≡◌, ℕ, zero, suc, ◌+◌, ◌-◌, ◌<◌, ◌≤◌, Bool, true, false, Some, List, [], ◌∷◌, ◌++◌, length, take, drop, replicate, take-append-drop, refl, sym, ◌∙◌, ap, subst, ⊎_elim, arith}
 use Rattle.std.specs.Prelude.{◌&&◌, cond, nat_lt, nat_le, count_by, sum_by, slice_get}
-use Rattle.std.proofs.lemmas.Bool.{cases_Bool, cond-true, cond-false, and_parts}
+use Rattle.std.proofs.lemmas.Bool.{cases_Bool, cond-true, cond-false, and_parts, leb-false}
 use Rattle.std.proofs.lemmas.List.Sums.{sum_by-cons}
 use Rattle.std.proofs.lemmas.Bool.Decides.{Decides-ltb}
 use Rattle.request_ledger.specs.declared.pending.LedgerSpan.{LedgerSpan}
 use Rattle.request_ledger.specs.declared.pending.TraceEnd.{TraceEnd}
+use Rattle.request_ledger.specs.declared.pending.TraceEnd.TheVariants.{Handed}
 use Rattle.request_ledger.specs.Pending.{how_many, may_end, count_may_end, with_oldest, after_end, after_ends, ended_spans}
+
+and_no : (b : Bool) → (b && false) ≡ false
+and_no true = refl
+and_no false = refl
 
 -- none of them
 pub with_none : (end : TraceEnd) (spans : List LedgerSpan) (flags : List Bool) → with_oldest end 0 spans flags ≡ flags
 with_none end [] flags = refl
 with_none end (span ∷ spans) [] = refl
 with_none end (span ∷ spans) (ended ∷ flags) = ap (λ (l : List Bool). ended ∷ l) (with_none end spans flags)
+
+abbrev one_if : Bool → ℕ
+one_if b = cond b 1 0
+
+-- where none may end, none does
+pub with_no_more : (end : TraceEnd) (n : ℕ) (spans : List LedgerSpan) (flags : List Bool) → count_may_end end spans flags ≡ 0 → with_oldest end n spans flags ≡ flags
+with_no_more end n [] flags none = refl
+with_no_more end n (span ∷ spans) [] none = refl
+with_no_more end n (span ∷ spans) (ended ∷ flags) none = ⊎_elim
+    (λ may. let one : one_if (may_end end span ended) ≡ 1 = ap one_if may in absurd (omega arith))
+    (λ may. let rest : count_may_end end spans flags ≡ 0 = omega arith in
+    cond-false _ _ _ (ap (λ (b : Bool). nat_lt 0 n && b) may ∙ and_no (nat_lt 0 n)) ∙ ap (λ (l : List Bool). ended ∷ l) (with_no_more end n spans flags rest))
+    (cases_Bool (may_end end span ended))
+
+-- one that is handed over ends the first, or none where there is none
+pub after_handed : (id : List ℕ) (spans : List LedgerSpan) (flags : List Bool) → with_oldest (Handed id) 1 spans flags ≡ after_end spans flags (Handed id)
+after_handed id spans flags = ⊎_elim
+    (λ takes. sym (cond-true _ _ _ takes))
+    (λ takes. let low : count_may_end (Handed id) spans flags < 1 = leb-false _ _ takes in
+    with_no_more (Handed id) 1 spans flags (omega arith) ∙ sym (cond-false _ _ _ takes))
+    (cases_Bool (nat_le 1 (count_may_end (Handed id) spans flags)))
+
+-- ---- those at the front that have ended are passed over
+
+pub passed_count : (end : TraceEnd) (k : ℕ) (spans : List LedgerSpan) (flags : List Bool) → take k flags ≡ replicate k true → count_may_end end (drop k spans) (drop k flags) ≡ count_may_end end spans flags
+passed_count end zero spans flags front = refl
+passed_count end (suc k) [] flags front = refl
+passed_count end (suc k) (span ∷ spans) [] front = absurd (cc)
+passed_count end (suc k) (span ∷ spans) (ended ∷ flags) front =
+    let was : ended ≡ true = cc in
+    let rest : take k flags ≡ replicate k true = cc in
+    let none : one_if (may_end end span ended) ≡ 0 = ap (λ (b : Bool). one_if (may_end end span b)) was in
+    omega (arith, none, passed_count end k spans flags rest)
+
+pub passed_oldest : (end : TraceEnd) (n k : ℕ) (spans : List LedgerSpan) (flags : List Bool) → take k flags ≡ replicate k true → take k flags ++ with_oldest end n (drop k spans) (drop k flags) ≡ with_oldest end n spans flags
+passed_oldest end n zero spans flags front = refl
+passed_oldest end n (suc k) [] flags front = take-append-drop (suc k) flags
+passed_oldest end n (suc k) (span ∷ spans) [] front = absurd (cc)
+passed_oldest end n (suc k) (span ∷ spans) (ended ∷ flags) front =
+    let was : ended ≡ true = cc in
+    let rest : take k flags ≡ replicate k true = cc in
+    let none : may_end end span ended ≡ false = ap (λ (b : Bool). may_end end span b) was in
+    ap (λ (l : List Bool). ended ∷ l) (passed_oldest end n k spans flags rest)
+    ∙ sym (cond-false _ _ _ (ap (λ (b : Bool). nat_lt 0 n && b) none ∙ and_no (nat_lt 0 n)))
 
 abbrev pub count_ended : List Bool → ℕ
 count_ended flags = count_by (λ ended. ended) flags

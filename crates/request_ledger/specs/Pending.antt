@@ -1,5 +1,5 @@
 -- Which spans of one trace have ended. The spans stand in the order in which they came, the oldest first.
-use Rattle.std.specs.Prelude.{◌≡◌, ◌≤◌, ℕ, ◌+◌, ◌-◌, nat_lt, nat_le, Bool, true, false, not, ◌&&◌, if◌then◌else◌, List, [], ◌∷◌, ◌++◌, length, replicate, bytes_eq, sum_by, count_by, slice_get, Some}
+use Rattle.std.specs.Prelude.{◌≡◌, ◌≤◌, ℕ, ◌+◌, ◌-◌, nat_lt, nat_le, Bool, true, false, not, ◌&&◌, if◌then◌else◌, List, [], ◌∷◌, ◌++◌, length, take, replicate, bytes_eq, sum_by, count_by, slice_get, Some}
 use Rattle.request_ledger.specs.declared.pending.LedgerSpan.{LedgerSpan}
 use Rattle.request_ledger.specs.declared.pending.TraceEnd.{TraceEnd}
 use Rattle.request_ledger.specs.declared.pending.TraceEnd.TheVariants.{Handed, Counted}
@@ -43,6 +43,10 @@ after_ends spans flags (end ∷ ends) = after_ends spans (after_end spans flags 
 -- which spans have ended, when none had before
 abbrev pub ended_spans : List LedgerSpan → List TraceEnd → List Bool
 ended_spans spans ends = after_ends spans (replicate (length spans) false) ends
+
+-- all spans before a place have ended
+abbrev pub HaveEnded : ℕ → List Bool → Type 0
+HaveEnded place flags = (place ≤ length flags) × (take place flags ≡ replicate place true)
 
 -- no more have ended than the ends say
 abbrev pub NothingEndsTwice : Type 0
