@@ -6,8 +6,8 @@ use Rattle.std.proofs.lemmas.Bool.{cases_Bool, cond-true, cond-false, and_parts,
 use Rattle.std.proofs.lemmas.List.Sums.{sum_by-cons}
 use Rattle.std.proofs.lemmas.Bool.Decides.{Decides-ltb}
 use Rattle.request_ledger.specs.declared.pending.LedgerSpan.{LedgerSpan}
-use Rattle.request_ledger.specs.declared.pending.TraceEnd.{TraceEnd}
-use Rattle.request_ledger.specs.declared.pending.TraceEnd.TheVariants.{Handed}
+use Rattle.request_ledger.specs.declared.pending.LedgerEnd.{LedgerEnd}
+use Rattle.request_ledger.specs.declared.pending.LedgerEnd.TheVariants.{Handed}
 use Rattle.request_ledger.specs.Pending.{how_many, may_end, count_may_end, with_oldest, after_end, after_ends, ended_spans}
 
 and_no : (b : Bool) → (b && false) ≡ false
@@ -15,7 +15,7 @@ and_no true = refl
 and_no false = refl
 
 -- none of them
-pub with_none : (end : TraceEnd) (spans : List LedgerSpan) (flags : List Bool) → with_oldest end 0 spans flags ≡ flags
+pub with_none : (end : LedgerEnd) (spans : List LedgerSpan) (flags : List Bool) → with_oldest end 0 spans flags ≡ flags
 with_none end [] flags = refl
 with_none end (span ∷ spans) [] = refl
 with_none end (span ∷ spans) (ended ∷ flags) = ap (λ (l : List Bool). ended ∷ l) (with_none end spans flags)
@@ -24,7 +24,7 @@ abbrev one_if : Bool → ℕ
 one_if b = cond b 1 0
 
 -- where none may end, none does
-pub with_no_more : (end : TraceEnd) (n : ℕ) (spans : List LedgerSpan) (flags : List Bool) → count_may_end end spans flags ≡ 0 → with_oldest end n spans flags ≡ flags
+pub with_no_more : (end : LedgerEnd) (n : ℕ) (spans : List LedgerSpan) (flags : List Bool) → count_may_end end spans flags ≡ 0 → with_oldest end n spans flags ≡ flags
 with_no_more end n [] flags none = refl
 with_no_more end n (span ∷ spans) [] none = refl
 with_no_more end n (span ∷ spans) (ended ∷ flags) none = ⊎_elim
@@ -43,7 +43,7 @@ after_handed id spans flags = ⊎_elim
 
 -- ---- those at the front that have ended are passed over
 
-pub passed_count : (end : TraceEnd) (k : ℕ) (spans : List LedgerSpan) (flags : List Bool) → take k flags ≡ replicate k true → count_may_end end (drop k spans) (drop k flags) ≡ count_may_end end spans flags
+pub passed_count : (end : LedgerEnd) (k : ℕ) (spans : List LedgerSpan) (flags : List Bool) → take k flags ≡ replicate k true → count_may_end end (drop k spans) (drop k flags) ≡ count_may_end end spans flags
 passed_count end zero spans flags front = refl
 passed_count end (suc k) [] flags front = refl
 passed_count end (suc k) (span ∷ spans) [] front = absurd (cc)
@@ -53,7 +53,7 @@ passed_count end (suc k) (span ∷ spans) (ended ∷ flags) front =
     let none : one_if (may_end end span ended) ≡ 0 = ap (λ (b : Bool). one_if (may_end end span b)) was in
     omega (arith, none, passed_count end k spans flags rest)
 
-pub passed_oldest : (end : TraceEnd) (n k : ℕ) (spans : List LedgerSpan) (flags : List Bool) → take k flags ≡ replicate k true → take k flags ++ with_oldest end n (drop k spans) (drop k flags) ≡ with_oldest end n spans flags
+pub passed_oldest : (end : LedgerEnd) (n k : ℕ) (spans : List LedgerSpan) (flags : List Bool) → take k flags ≡ replicate k true → take k flags ++ with_oldest end n (drop k spans) (drop k flags) ≡ with_oldest end n spans flags
 passed_oldest end n zero spans flags front = refl
 passed_oldest end n (suc k) [] flags front = take-append-drop (suc k) flags
 passed_oldest end n (suc k) (span ∷ spans) [] front = absurd (cc)
@@ -72,7 +72,7 @@ count_ended flags = count_by (λ ended. ended) flags
 count_cons : (ended : Bool) (flags : List Bool) → count_ended (ended ∷ flags) ≡ cond ended 1 0 + count_ended flags
 count_cons ended flags = sum_by-cons (λ e. cond e 1 0) ended flags
 
-pub at_most : (end : TraceEnd) (n : ℕ) (spans : List LedgerSpan) (flags : List Bool) → count_ended (with_oldest end n spans flags) ≤ count_ended flags + n
+pub at_most : (end : LedgerEnd) (n : ℕ) (spans : List LedgerSpan) (flags : List Bool) → count_ended (with_oldest end n spans flags) ≤ count_ended flags + n
 at_most end n [] flags = omega arith
 at_most end n (span ∷ spans) [] = omega arith
 at_most end n (span ∷ spans) (ended ∷ flags) =
@@ -85,7 +85,7 @@ at_most end n (span ∷ spans) (ended ∷ flags) =
     subst fewer (sym (cond-false _ _ _ is)) here)
     (cases_Bool (nat_lt 0 n && may_end end span ended))
 
-at_most_by_end : (spans : List LedgerSpan) (flags : List Bool) (end : TraceEnd) → count_ended (after_end spans flags end) ≤ count_ended flags + how_many end
+at_most_by_end : (spans : List LedgerSpan) (flags : List Bool) (end : LedgerEnd) → count_ended (after_end spans flags end) ≤ count_ended flags + how_many end
 at_most_by_end spans flags end =
     let fewer : List Bool → Type 0 = λ l. count_ended l ≤ count_ended flags + how_many end in
     ⊎_elim
@@ -93,7 +93,7 @@ at_most_by_end spans flags end =
     (λ is. let here : fewer flags = omega arith in subst fewer (sym (cond-false _ _ _ is)) here)
     (cases_Bool (nat_le (how_many end) (count_may_end end spans flags)))
 
-at_most_by_ends : (spans : List LedgerSpan) (flags : List Bool) (ends : List TraceEnd) → count_ended (after_ends spans flags ends) ≤ count_ended flags + sum_by how_many ends
+at_most_by_ends : (spans : List LedgerSpan) (flags : List Bool) (ends : List LedgerEnd) → count_ended (after_ends spans flags ends) ≤ count_ended flags + sum_by how_many ends
 at_most_by_ends spans flags [] = omega arith
 at_most_by_ends spans flags (end ∷ ends) =
     omega (arith, at_most_by_ends spans (after_end spans flags end) ends, at_most_by_end spans flags end, sum_by-cons how_many end ends)
@@ -102,12 +102,12 @@ count_none : (n : ℕ) → count_ended (replicate n false) ≡ 0
 count_none zero = refl
 count_none (suc n) = count_cons false (replicate n false) ∙ (let e : 0 + count_ended (replicate n false) ≡ count_ended (replicate n false) = omega arith in e) ∙ count_none n
 
-pub nothing_ends_twice : (spans : List LedgerSpan) (ends : List TraceEnd) → count_ended (ended_spans spans ends) ≤ sum_by how_many ends
+pub nothing_ends_twice : (spans : List LedgerSpan) (ends : List LedgerEnd) → count_ended (ended_spans spans ends) ≤ sum_by how_many ends
 nothing_ends_twice spans ends = omega (arith, at_most_by_ends spans (replicate (length spans) false) ends, count_none (length spans))
 
 -- ---- what has ended stays so
 
-stays : (end : TraceEnd) (n : ℕ) (spans : List LedgerSpan) (flags : List Bool) (i : ℕ) → slice_get flags i ≡ Some true → slice_get (with_oldest end n spans flags) i ≡ Some true
+stays : (end : LedgerEnd) (n : ℕ) (spans : List LedgerSpan) (flags : List Bool) (i : ℕ) → slice_get flags i ≡ Some true → slice_get (with_oldest end n spans flags) i ≡ Some true
 stays end n [] flags i is = is
 stays end n (span ∷ spans) [] i is = is
 stays end n (span ∷ spans) (ended ∷ flags) i is = ⊎_elim
@@ -119,20 +119,20 @@ stays end n (span ∷ spans) (ended ∷ flags) i is = ⊎_elim
     stays_behind now before flags later zero first rest is = let was : before ≡ true = cc in ap Some (first was)
     stays_behind now before flags later (suc i) first rest is = rest i is
 
-stays_by_end : (spans : List LedgerSpan) (flags : List Bool) (end : TraceEnd) (i : ℕ) → slice_get flags i ≡ Some true → slice_get (after_end spans flags end) i ≡ Some true
+stays_by_end : (spans : List LedgerSpan) (flags : List Bool) (end : LedgerEnd) (i : ℕ) → slice_get flags i ≡ Some true → slice_get (after_end spans flags end) i ≡ Some true
 stays_by_end spans flags end i is = ⊎_elim
     (λ takes. ap (λ (l : List Bool). slice_get l i) (cond-true _ _ _ takes) ∙ stays end (how_many end) spans flags i is)
     (λ takes. ap (λ (l : List Bool). slice_get l i) (cond-false _ _ _ takes) ∙ is)
     (cases_Bool (nat_le (how_many end) (count_may_end end spans flags)))
 
-stays_by_ends : (spans : List LedgerSpan) (flags : List Bool) (more : List TraceEnd) (i : ℕ) → slice_get flags i ≡ Some true → slice_get (after_ends spans flags more) i ≡ Some true
+stays_by_ends : (spans : List LedgerSpan) (flags : List Bool) (more : List LedgerEnd) (i : ℕ) → slice_get flags i ≡ Some true → slice_get (after_ends spans flags more) i ≡ Some true
 stays_by_ends spans flags [] i is = is
 stays_by_ends spans flags (end ∷ more) i is = stays_by_ends spans (after_end spans flags end) more i (stays_by_end spans flags end i is)
 
-after_ends-append : (spans : List LedgerSpan) (flags : List Bool) (ends more : List TraceEnd) → after_ends spans flags (ends ++ more) ≡ after_ends spans (after_ends spans flags ends) more
+after_ends-append : (spans : List LedgerSpan) (flags : List Bool) (ends more : List LedgerEnd) → after_ends spans flags (ends ++ more) ≡ after_ends spans (after_ends spans flags ends) more
 after_ends-append spans flags [] more = refl
 after_ends-append spans flags (end ∷ ends) more = after_ends-append spans (after_end spans flags end) ends more
 
-pub ended_stay_ended : (spans : List LedgerSpan) (ends more : List TraceEnd) (i : ℕ) → slice_get (ended_spans spans ends) i ≡ Some true → slice_get (ended_spans spans (ends ++ more)) i ≡ Some true
+pub ended_stay_ended : (spans : List LedgerSpan) (ends more : List LedgerEnd) (i : ℕ) → slice_get (ended_spans spans ends) i ≡ Some true → slice_get (ended_spans spans (ends ++ more)) i ≡ Some true
 ended_stay_ended spans ends more i is =
     ap (λ (l : List Bool). slice_get l i) (after_ends-append spans (replicate (length spans) false) ends more) ∙ stays_by_ends spans (ended_spans spans ends) more i is

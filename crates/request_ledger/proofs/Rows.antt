@@ -4,7 +4,7 @@ use Rattle.std.proofs.Common.{◌≡◌, ℕ, true, false, Some, None, List, [],
 use Rattle.otlp_encoding.specs.declared.encoding.Encoding.TheVariants.{Json, Protobuf}
 use Rattle.request_ledger.specs.declared.notes.LedgerNote.TheVariants.{Counted, Handed, Again}
 use Rattle.request_ledger.specs.declared.pending.LedgerSpan.{LedgerSpan}
-use Rattle.request_ledger.specs.declared.pending.TraceEnd.TheVariants as ends
+use Rattle.request_ledger.specs.declared.pending.LedgerEnd.TheVariants as ends
 use Rattle.request_ledger.specs.Sums.{after_bytes, sums_of}
 use Rattle.request_ledger.specs.Format.{record_of, record_in, records_in, told_len, told_payload, is_record, records_past}
 use Rattle.request_ledger.specs.Entries.{LedgerRequest, request_bytes, request_in, note_bytes, note_in}

@@ -16,7 +16,7 @@ pub struct LedgerSpan {
 
 /// What a note says has ended of a trace.
 #[derive(Clone, Copy)]
-pub enum TraceEnd {
+pub enum LedgerEnd {
     /// A span with this id was handed over, or given up and counted.
     Handed(SpanId),
     /// So many spans, of those that came up to this moment, were counted as dropped.
@@ -30,7 +30,7 @@ pub enum TraceEnd {
 pub fn ended_of(
     alloc: Global,
     spans: &[LedgerSpan],
-    ends: &[TraceEnd],
+    ends: &[LedgerEnd],
 ) -> Result<Vec<bool>, AllocError>
     ensures { IfOk result (λ ended. ended.items ≡ ended_spans spans.now ends.now) }
 {
@@ -57,15 +57,15 @@ fn next_pending(ended: &[bool], from: usize) -> usize
 }
 
 /// Takes one end. All spans before `first` have ended.
-fn take_end(spans: &[LedgerSpan], ended: &mut [bool], first: usize, end: &TraceEnd)
+fn take_end(spans: &[LedgerSpan], ended: &mut [bool], first: usize, end: &LedgerEnd)
     requires same { length ended.old ≡ length spans.now }
     requires front { HaveEnded first ended.old }
     ensures ended { ended.new ≡ after_end spans.now ended.old end.now }
     ensures front { HaveEnded first ended.new }
 {
     match end {
-        TraceEnd::Handed(_) => end_oldest(end, 1, spans, ended, first),
-        TraceEnd::Counted { spans: n, .. } => {
+        LedgerEnd::Handed(_) => end_oldest(end, 1, spans, ended, first),
+        LedgerEnd::Counted { spans: n, .. } => {
             if *n <= count_may_end(end, spans, ended, first) {
                 end_oldest(end, *n, spans, ended, first);
             }
@@ -74,23 +74,23 @@ fn take_end(spans: &[LedgerSpan], ended: &mut [bool], first: usize, end: &TraceE
 }
 
 /// Whether this span hasn't ended, and the end is of it.
-fn may_end(end: &TraceEnd, span: &LedgerSpan, ended: bool) -> bool
+fn may_end(end: &LedgerEnd, span: &LedgerSpan, ended: bool) -> bool
     ensures { result ≡ may_end end.now span.now ended }
 {
     !ended && is_of(end, span)
 }
 
-fn is_of(end: &TraceEnd, span: &LedgerSpan) -> bool
+fn is_of(end: &LedgerEnd, span: &LedgerSpan) -> bool
     ensures { result ≡ is_of end.now span.now }
 {
     match end {
-        TraceEnd::Handed(id) => span.span == *id,
-        TraceEnd::Counted { moment, .. } => span.moment <= *moment,
+        LedgerEnd::Handed(id) => span.span == *id,
+        LedgerEnd::Counted { moment, .. } => span.moment <= *moment,
     }
 }
 
 /// How many spans the end may end. All spans before `first` have ended.
-fn count_may_end(end: &TraceEnd, spans: &[LedgerSpan], ended: &[bool], first: usize) -> u64
+fn count_may_end(end: &LedgerEnd, spans: &[LedgerSpan], ended: &[bool], first: usize) -> u64
     requires same { length ended.now ≡ length spans.now }
     requires front { HaveEnded first ended.now }
     ensures { result ≡ count_may_end end.now spans.now ended.now }
@@ -105,7 +105,7 @@ fn count_may_end(end: &TraceEnd, spans: &[LedgerSpan], ended: &[bool], first: us
 }
 
 /// Ends the oldest spans that the end may end, so many of them. All spans before `first` have ended.
-fn end_oldest(end: &TraceEnd, n: u64, spans: &[LedgerSpan], ended: &mut [bool], first: usize)
+fn end_oldest(end: &LedgerEnd, n: u64, spans: &[LedgerSpan], ended: &mut [bool], first: usize)
     requires same { length ended.old ≡ length spans.now }
     requires front { HaveEnded first ended.old }
     ensures ended { ended.new ≡ with_oldest end.now n spans.now ended.old }

@@ -1,6 +1,6 @@
 -- A span that is handed over is the first with its id, if there is one.
 use Rattle.std.proofs.Common.{◌≡◌, ap, sym, ◌∙◌}
-use Rattle.request_ledger.specs.declared.pending.TraceEnd.TheVariants.{Handed}
+use Rattle.request_ledger.specs.declared.pending.LedgerEnd.TheVariants.{Handed}
 use Rattle.request_ledger.specs.Pending.{with_oldest, after_end}
 use Rattle.request_ledger.proofs.Ends.{after_handed}
 use Rattle.request_ledger.proofs.pending.take_end.Goals as goal
