@@ -1,14 +1,14 @@
 -- What ends do to the flags of spans.
 -- For the contracts of `end_oldest`, `nothing_ends_twice` and `ended_stay_ended`.
-use Rattle.std.proofs.Common.{◌≡◌, ℕ, zero, suc, ◌+◌, ◌-◌, ◌<◌, ◌≤◌, Bool, true, false, Some, List, [], ◌∷◌, ◌++◌, length, take, drop, replicate, take-append-drop, refl, sym, ◌∙◌, ap, subst, ⊎_elim, arith}
+use Rattle.std.proofs.Common.{◌≡◌, ℕ, zero, suc, ◌+◌, ◌-◌, ◌<◌, ◌≤◌, Bool, true, false, not, Some, ◌⊎◌, inl, inr, List, [], ◌∷◌, ◌++◌, length, take, drop, replicate, take-append-drop, refl, sym, ◌∙◌, ap, subst, ⊎_elim, arith}
 use Rattle.std.specs.Prelude.{◌&&◌, cond, nat_lt, nat_le, count_by, sum_by, slice_get}
-use Rattle.std.proofs.lemmas.Bool.{cases_Bool, cond-true, cond-false, and_parts, leb-false}
+use Rattle.std.proofs.lemmas.Bool.{cases_Bool, cond-true, cond-false, and_parts, and_from, leb-false, leb-true}
 use Rattle.std.proofs.lemmas.List.Sums.{sum_by-cons}
 use Rattle.std.proofs.lemmas.Bool.Decides.{Decides-ltb}
 use Rattle.request_ledger.specs.declared.pending.LedgerSpan.{LedgerSpan}
 use Rattle.request_ledger.specs.declared.pending.LedgerEnd.{LedgerEnd}
 use Rattle.request_ledger.specs.declared.pending.LedgerEnd.TheVariants.{Handed}
-use Rattle.request_ledger.specs.Pending.{how_many, may_end, count_may_end, with_oldest, after_end, after_ends, ended_spans}
+use Rattle.request_ledger.specs.Pending.{how_many, is_of, may_end, count_may_end, with_oldest, after_end, after_ends, ended_spans}
 
 and_no : (b : Bool) → (b && false) ≡ false
 and_no true = refl
@@ -104,6 +104,44 @@ count_none (suc n) = count_cons false (replicate n false) ∙ (let e : 0 + count
 
 pub nothing_ends_twice : (spans : List LedgerSpan) (ends : List LedgerEnd) → count_ended (ended_spans spans ends) ≤ sum_by how_many ends
 nothing_ends_twice spans ends = omega (arith, at_most_by_ends spans (replicate (length spans) false) ends, count_none (length spans))
+
+-- ---- just as many end as an end says, or none
+
+not_ended : (ended of : Bool) → (not ended && of) ≡ true → ended ≡ false
+not_ended true of is = absurd (cc)
+not_ended false of is = refl
+
+-- where this one doesn't end, as many may end behind it
+enough : (n : ℕ) (may : Bool) (rest : ℕ) → (nat_lt 0 n && may) ≡ false → n ≤ one_if may + rest → n ≤ rest
+enough zero may rest is low = omega arith
+enough (suc n) true rest is low =
+    let more : 0 < suc n = omega arith in
+    let odd : true ≡ false = sym (and_from _ _ ((Decides-ltb 0 (suc n)).1 more) refl) ∙ is in
+    absurd (cc)
+enough (suc n) false rest is low = omega arith
+
+just : (end : LedgerEnd) (n : ℕ) (spans : List LedgerSpan) (flags : List Bool) → n ≤ count_may_end end spans flags → count_ended (with_oldest end n spans flags) ≡ count_ended flags + n
+just end n [] flags low = omega arith
+just end n (span ∷ spans) [] low = omega arith
+just end n (span ∷ spans) (ended ∷ flags) low =
+    ⊎_elim
+    (λ is.
+    let parts = and_parts _ _ is in
+    let some : 0 < n = (Decides-ltb 0 n).0 parts.0 in
+    let one : one_if (may_end end span ended) ≡ 1 = ap one_if parts.1 in
+    let was : one_if ended ≡ 0 = ap one_if (not_ended ended (is_of end span) parts.1) in
+    let rest = just end (n - 1) spans flags (omega arith) in
+    ap count_ended (cond-true _ _ _ is) ∙ omega (arith, count_cons true (with_oldest end (n - 1) spans flags), count_cons ended flags, rest))
+    (λ is.
+    let rest = just end n spans flags (enough n (may_end end span ended) (count_may_end end spans flags) is low) in
+    ap count_ended (cond-false _ _ _ is) ∙ omega (arith, count_cons ended (with_oldest end n spans flags), count_cons ended flags, rest))
+    (cases_Bool (nat_lt 0 n && may_end end span ended))
+
+pub all_or_none : (spans : List LedgerSpan) (flags : List Bool) (end : LedgerEnd) → (count_ended (after_end spans flags end) ≡ count_ended flags + how_many end) ⊎ (after_end spans flags end ≡ flags)
+all_or_none spans flags end = ⊎_elim
+    (λ is. inl (ap count_ended (cond-true _ _ _ is) ∙ just end (how_many end) spans flags (leb-true _ _ is)))
+    (λ is. inr (cond-false _ _ _ is))
+    (cases_Bool (nat_le (how_many end) (count_may_end end spans flags)))
 
 -- ---- what has ended stays so
 

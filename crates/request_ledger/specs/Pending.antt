@@ -1,5 +1,5 @@
 -- Which spans of one trace have ended. The spans stand in the order in which they came, the oldest first.
-use Rattle.std.specs.Prelude.{◌≡◌, ◌≤◌, ℕ, ◌+◌, ◌-◌, nat_lt, nat_le, Bool, true, false, not, ◌&&◌, if◌then◌else◌, List, [], ◌∷◌, ◌++◌, length, take, replicate, bytes_eq, sum_by, count_by, slice_get, Some}
+use Rattle.std.specs.Prelude.{◌≡◌, ◌⊎◌, ◌≤◌, ℕ, ◌+◌, ◌-◌, nat_lt, nat_le, Bool, true, false, not, ◌&&◌, if◌then◌else◌, List, [], ◌∷◌, ◌++◌, length, take, replicate, bytes_eq, sum_by, count_by, slice_get, Some}
 use Rattle.request_ledger.specs.declared.pending.LedgerSpan.{LedgerSpan}
 use Rattle.request_ledger.specs.declared.pending.LedgerEnd.{LedgerEnd}
 use Rattle.request_ledger.specs.declared.pending.LedgerEnd.TheVariants.{Handed, Counted}
@@ -51,6 +51,12 @@ HaveEnded place flags = (place ≤ length flags) × (take place flags ≡ replic
 -- no more have ended than the ends say
 abbrev pub NothingEndsTwice : Type 0
 NothingEndsTwice = (spans : List LedgerSpan) (ends : List LedgerEnd) → count_by (λ ended. ended) (ended_spans spans ends) ≤ sum_by how_many ends
+
+-- an end ends just as many as it says, or none
+abbrev pub EndsAllOrNone : Type 0
+EndsAllOrNone =
+    (spans : List LedgerSpan) (flags : List Bool) (end : LedgerEnd)
+    → (count_by (λ ended. ended) (after_end spans flags end) ≡ count_by (λ ended. ended) flags + how_many end) ⊎ (after_end spans flags end ≡ flags)
 
 -- a span that has ended stays so, whatever ends follow
 abbrev pub EndedStayEnded : Type 0
