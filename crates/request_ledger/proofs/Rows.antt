@@ -1,14 +1,10 @@
 -- Rows by computation. The bytes come from a program of some lines that shares nothing with this crate.
 -- No contract rests on it: it shows the definitions on worked cases.
-use Rattle.std.proofs.Common.{◌≡◌, ℕ, Bool, true, false, Option, Some, None, List, [], ◌∷◌, ◌++◌, take, drop, set, map, refl}
-use Rattle.span_ids.specs.declared.keys.ConnKey.{ConnKey}
+use Rattle.std.proofs.Common.{◌≡◌, ℕ, true, false, Some, None, List, [], ◌∷◌, ◌++◌, take, set, map, refl}
 use Rattle.otlp_encoding.specs.declared.encoding.Encoding.TheVariants.{Json, Protobuf}
-use Rattle.request_ledger.specs.declared.sums.Sums.{Sums}
 use Rattle.request_ledger.specs.declared.notes.LedgerNote.TheVariants.{Counted, Handed, Again}
 use Rattle.request_ledger.specs.declared.pending.LedgerSpan.{LedgerSpan}
-use Rattle.request_ledger.specs.declared.pending.TraceEnd.{TraceEnd}
-use Rattle.request_ledger.specs.declared.pending.TraceEnd.TheVariants as ends
-use Rattle.request_ledger.specs.declared.removal.ShardStanding.{ShardStanding}
+use Rattle.request_ledger.specs.declared.pending.LedgerEnd.TheVariants as ends
 use Rattle.request_ledger.specs.Sums.{after_bytes, sums_of}
 use Rattle.request_ledger.specs.Format.{record_of, record_in, records_in, told_len, told_payload, is_record, records_past}
 use Rattle.request_ledger.specs.Entries.{LedgerRequest, request_bytes, request_in, note_bytes, note_in}

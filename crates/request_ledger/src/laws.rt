@@ -1,6 +1,6 @@
 //! Laws of the ledger.
 ghost use Rattle.request_ledger.specs.Laws.{RecordsReadBack, TurnedByteIsFound};
-ghost use Rattle.request_ledger.specs.Pending.{NothingEndsTwice, EndedStayEnded};
+ghost use Rattle.request_ledger.specs.Pending.{NothingEndsTwice, EndsAllOrNone, EndedStayEnded};
 
 /// Records that were put one behind the other are read back in order, whatever stands behind them.
 pub fn records_read_back()
@@ -15,6 +15,11 @@ pub fn turned_byte_is_found()
 /// No more spans have ended than the ends say.
 pub fn nothing_ends_twice()
     ensures { NothingEndsTwice }
+{}
+
+/// Each end ends just as many spans as it says, or none.
+pub fn ends_all_or_none()
+    ensures { EndsAllOrNone }
 {}
 
 /// A span that has ended stays so when more ends follow.

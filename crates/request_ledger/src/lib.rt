@@ -21,8 +21,10 @@ mod sums;
 mod writing;
 
 pub use entries::{RequestEntry, put_request, request_in};
-pub use laws::{ended_stay_ended, nothing_ends_twice, records_read_back, turned_byte_is_found};
+pub use laws::{
+    ended_stay_ended, ends_all_or_none, nothing_ends_twice, records_read_back, turned_byte_is_found,
+};
 pub use notes::{LedgerNote, note_in, put_note};
-pub use pending::{LedgerSpan, TraceEnd, ended_of};
+pub use pending::{LedgerEnd, LedgerSpan, ended_of};
 pub use records::{HEAD_LEN, put_record, record_at};
 pub use removal::{ShardStanding, has_room, is_settled};

@@ -1,6 +1,6 @@
 //! Which spans of one trace have ended, by the notes of it.
-ghost use Rattle.std.specs.Prelude.{◌≡◌, ◌<◌, ◌^◌, length, IfOk};
-ghost use Rattle.request_ledger.specs.Pending.{how_many, is_of, may_end, count_may_end, with_oldest, after_end, ended_spans};
+ghost use Rattle.std.specs.Prelude.{◌≡◌, length, IfOk};
+ghost use Rattle.request_ledger.specs.Pending.{HaveEnded, is_of, may_end, count_may_end, with_oldest, after_end, ended_spans};
 
 use span_ids::{Moment, SpanId};
 use std::alloc::{AllocError, Global};
@@ -16,7 +16,7 @@ pub struct LedgerSpan {
 
 /// What a note says has ended of a trace.
 #[derive(Clone, Copy)]
-pub enum TraceEnd {
+pub enum LedgerEnd {
     /// A span with this id was handed over, or given up and counted.
     Handed(SpanId),
     /// So many spans, of those that came up to this moment, were counted as dropped.
@@ -30,79 +30,93 @@ pub enum TraceEnd {
 pub fn ended_of(
     alloc: Global,
     spans: &[LedgerSpan],
-    ends: &[TraceEnd],
+    ends: &[LedgerEnd],
 ) -> Result<Vec<bool>, AllocError>
     ensures { IfOk result (λ ended. ended.items ≡ ended_spans spans.now ends.now) }
 {
     let mut ended = vec![in alloc; false; spans.len()]?;
+    let mut first = 0;
     for end in ends {
-        take_end(spans, &mut ended, end);
+        first = next_pending(&ended, first);
+        take_end(spans, &mut ended, first, end);
     }
     Ok(ended)
 }
 
-/// Takes one end.
-fn take_end(spans: &[LedgerSpan], ended: &mut [bool], end: &TraceEnd)
-    requires { length ended.old ≡ length spans.now }
-    ensures { ended.new ≡ after_end spans.now ended.old end.now }
+/// The place of the first span that hasn't ended, where all before `from` have.
+fn next_pending(ended: &[bool], from: usize) -> usize
+    requires { HaveEnded from ended.now }
+    ensures { HaveEnded result ended.now }
 {
-    let n = how_many(end);
-    if n <= count_may_end(end, spans, ended) {
-        end_oldest(end, n, spans, ended);
+    for i in from..ended.len() {
+        if !ended[i] {
+            return i;
+        }
     }
+    ended.len()
 }
 
-/// How many spans an end says have ended.
-fn how_many(end: &TraceEnd) -> u64
-    ensures { result ≡ how_many end.now }
+/// Takes one end. All spans before `first` have ended.
+fn take_end(spans: &[LedgerSpan], ended: &mut [bool], first: usize, end: &LedgerEnd)
+    requires same { length ended.old ≡ length spans.now }
+    requires front { HaveEnded first ended.old }
+    ensures ended { ended.new ≡ after_end spans.now ended.old end.now }
+    ensures front { HaveEnded first ended.new }
 {
     match end {
-        TraceEnd::Handed(_) => 1,
-        TraceEnd::Counted { spans, .. } => *spans,
+        LedgerEnd::Handed(_) => end_oldest(end, 1, spans, ended, first),
+        LedgerEnd::Counted { spans: n, .. } => {
+            if *n <= count_may_end(end, spans, ended, first) {
+                end_oldest(end, *n, spans, ended, first);
+            }
+        }
     }
 }
 
 /// Whether this span hasn't ended, and the end is of it.
-fn may_end(end: &TraceEnd, span: &LedgerSpan, ended: bool) -> bool
+fn may_end(end: &LedgerEnd, span: &LedgerSpan, ended: bool) -> bool
     ensures { result ≡ may_end end.now span.now ended }
 {
     !ended && is_of(end, span)
 }
 
-fn is_of(end: &TraceEnd, span: &LedgerSpan) -> bool
+fn is_of(end: &LedgerEnd, span: &LedgerSpan) -> bool
     ensures { result ≡ is_of end.now span.now }
 {
     match end {
-        TraceEnd::Handed(id) => span.span == *id,
-        TraceEnd::Counted { moment, .. } => span.moment <= *moment,
+        LedgerEnd::Handed(id) => span.span == *id,
+        LedgerEnd::Counted { moment, .. } => span.moment <= *moment,
     }
 }
 
-/// How many spans the end may end.
-fn count_may_end(end: &TraceEnd, spans: &[LedgerSpan], ended: &[bool]) -> u64
-    requires { length ended.now ≡ length spans.now }
+/// How many spans the end may end. All spans before `first` have ended.
+fn count_may_end(end: &LedgerEnd, spans: &[LedgerSpan], ended: &[bool], first: usize) -> u64
+    requires same { length ended.now ≡ length spans.now }
+    requires front { HaveEnded first ended.now }
     ensures { result ≡ count_may_end end.now spans.now ended.now }
 {
     let mut count = 0;
-    for (i, span) in spans.iter().enumerate() {
-        if may_end(end, span, ended[i]) {
+    for i in first..spans.len() {
+        if may_end(end, &spans[i], ended[i]) {
             count += 1;
         }
     }
     count
 }
 
-/// Ends the oldest spans that the end may end, so many of them.
-fn end_oldest(end: &TraceEnd, n: u64, spans: &[LedgerSpan], ended: &mut [bool])
-    requires { length ended.old ≡ length spans.now }
-    ensures { ended.new ≡ with_oldest end.now n spans.now ended.old }
+/// Ends the oldest spans that the end may end, so many of them. All spans before `first` have ended.
+fn end_oldest(end: &LedgerEnd, n: u64, spans: &[LedgerSpan], ended: &mut [bool], first: usize)
+    requires same { length ended.old ≡ length spans.now }
+    requires front { HaveEnded first ended.old }
+    ensures ended { ended.new ≡ with_oldest end.now n spans.now ended.old }
+    ensures front { HaveEnded first ended.new }
 {
     let mut left = n;
-    for (i, span) in spans.iter().enumerate() {
+    for i in first..spans.len() {
         if left == 0 {
             return;
         }
-        if may_end(end, span, ended[i]) {
+        if may_end(end, &spans[i], ended[i]) {
             ended[i] = true;
             left -= 1;
         }

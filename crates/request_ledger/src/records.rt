@@ -20,8 +20,8 @@ pub(crate) fn head_of(len: u32, sums: Sums) -> [u8; 12]
     [a, b, c, d, e, f, g, h, i, j, k, l]
 }
 
-#[tactic(auto, unfolding(crate::specs::Sums::sums_of))]
 /// Appends the record of a payload. A payload of 2^32 bytes or more is refused as if there were no memory.
+#[tactic(auto, unfolding(crate::specs::Sums::sums_of))]
 pub fn put_record(out: &mut Vec<u8>, payload: &[u8]) -> Result<(), AllocError>
     ensures ok { OnOk result (out.new.items ≡ out.old.items ++ record_of payload.now) }
     ensures fits { OnOk result (Fits payload.now) }
@@ -76,8 +76,8 @@ fn record_in(bytes: &[u8]) -> Option<&[u8]>
     Some(payload)
 }
 
-#[tactic(auto, unfolding(crate::specs::Sums::sums_of))]
 /// Whether this is the head of the record of a payload of that length.
+#[tactic(auto, unfolding(crate::specs::Sums::sums_of))]
 fn is_head(head: &[u8], len: u32, payload: &[u8]) -> bool
     ensures { IsTrue result ↔ (head.now ≡ head_bytes len (sums_of payload.now)) }
 {

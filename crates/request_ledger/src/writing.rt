@@ -19,8 +19,8 @@ pub(crate) fn put(out: &mut Vec<u8>, bytes: &[u8])
     }
 }
 
-#[tactic(auto, unfolding(crate::specs::Sums::sums_of))]
 /// Appends the record whose payload is a kind, three short fields, and a text.
+#[tactic(auto, unfolding(crate::specs::Sums::sums_of))]
 pub(crate) fn put_fields(
     out: &mut Vec<u8>,
     kind: u8,
