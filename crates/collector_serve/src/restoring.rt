@@ -103,6 +103,7 @@ fn restore<
             for number in earlier.files() {
                 let _ = folder.remove(*number);
             }
+            ledger.leaves_earlier(false);
             ledger.has_restored();
         }
         Ok(false) => ledger.has_restored(),

@@ -3,7 +3,7 @@ use crate::folder::{FileNumber, LedgerFolder};
 use crate::marking::{SpanPlace, mark_ended};
 use otlp_encoding::Encoding;
 use otlp_types::Record;
-use request_ledger::{HEAD_LEN, LedgerNote, TraceEnd, note_in, record_at, request_in};
+use request_ledger::{HEAD_LEN, LedgerEnd, LedgerNote, note_in, record_at, request_in};
 use span_ids::TraceId;
 use std::alloc::{AllocError, Global};
 use std::collections::{BTreeSet, HashMap};
@@ -41,7 +41,7 @@ impl PendingRequest {
 /// What became of spans in one run, and which requests of earlier ones it took again.
 #[derive(Drop)]
 struct RunNotes {
-    ends: HashMap<TraceId, Vec<TraceEnd>>,
+    ends: HashMap<TraceId, Vec<LedgerEnd>>,
 }
 
 /// What earlier runs left in a folder.
@@ -242,14 +242,14 @@ fn latest_first(alloc: Global, files: &[FileNumber]) -> Result<Vec<u64>, AllocEr
 }
 
 /// What a note says of a trace, if it says something of one.
-fn end_in(payload: &[u8]) -> Option<(TraceId, TraceEnd)> {
+fn end_in(payload: &[u8]) -> Option<(TraceId, LedgerEnd)> {
     match note_in(payload)? {
         LedgerNote::Counted {
             trace,
             moment,
             spans,
-        } => Some((trace, TraceEnd::Counted { moment, spans })),
-        LedgerNote::Handed { trace, span } => Some((trace, TraceEnd::Handed(span))),
+        } => Some((trace, LedgerEnd::Counted { moment, spans })),
+        LedgerNote::Handed { trace, span } => Some((trace, LedgerEnd::Handed(span))),
         LedgerNote::Again { .. } => None,
     }
 }
@@ -257,7 +257,7 @@ fn end_in(payload: &[u8]) -> Option<(TraceId, TraceEnd)> {
 /// Adds what a note says of a trace to its ends, if it says something of one.
 fn add_end(
     alloc: Global,
-    ends: &mut HashMap<TraceId, Vec<TraceEnd>>,
+    ends: &mut HashMap<TraceId, Vec<LedgerEnd>>,
     payload: &[u8],
 ) -> Result<(), AllocError> {
     let Some((trace, end)) = end_in(payload) else {

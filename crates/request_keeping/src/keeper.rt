@@ -81,6 +81,7 @@ impl<R: Files<File = File> + Copy> Keeper<R> {
         now: u64,
         rt: &impl Wait,
     ) -> io::Result<Self> {
+        ledger.leaves_earlier(!earlier.is_empty());
         let mut run = 0;
         let mut segment = 0;
         for number in earlier {
@@ -290,7 +291,7 @@ impl<R: Files<File = File> + Copy> Keeper<R> {
             let Some(first) = self.closed.front().copied() else {
                 return;
             };
-            if !self.is_over(&first) || self.remove(&first).is_err() {
+            if !self.is_over(&first) || self.remove(ledger, &first).is_err() {
                 return;
             }
             ledger.removes(first.bytes);
@@ -309,16 +310,20 @@ impl<R: Files<File = File> + Copy> Keeper<R> {
         }
     }
 
-    /// Removes the files of a segment, and the notes that are of no other.
-    fn remove(&mut self, closed: &ClosedSegment) -> io::Result<()> {
+    /// Removes the files of a segment. Its notes stay as long as files of an earlier run are left: they say what of these
+    /// was taken again.
+    fn remove(&self, ledger: &RequestLedger, closed: &ClosedSegment) -> io::Result<()> {
         for lane in 0..self.settings.lanes {
             self.folder.remove(self.number(closed.segment, Some(lane)))?;
         }
-        self.folder.remove(self.number(closed.segment, None))?;
-        Ok(())
+        if ledger.has_earlier() {
+            return Ok(());
+        }
+        self.folder.remove(self.number(closed.segment, None))
     }
 
-    /// The run is over: all that was told is written. If every span has its end, no file of this run stays.
+    /// The run is over: all that was told is written. If every span has its end, no request of this run stays, nor a note,
+    /// unless files of an earlier run are left.
     pub fn end<W: Wait>(&mut self, rt: &W, ledger: &RequestLedger, now: u64, has_ended: bool) {
         self.turn(rt, ledger, now);
         if !has_ended {
@@ -328,8 +333,10 @@ impl<R: Files<File = File> + Copy> Keeper<R> {
         let Ok(files) = self.folder.files() else {
             return;
         };
+        let has_earlier = ledger.has_earlier();
         for number in files {
-            if number.run == self.run {
+            let stays = number.lane.is_none() && has_earlier;
+            if number.run == self.run && !stays {
                 let _ = self.folder.remove(number);
             }
         }

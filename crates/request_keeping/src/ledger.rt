@@ -71,6 +71,8 @@ pub struct RequestLedger {
     refused_requests: AtomicU64,
     cut_files: AtomicU64,
     is_restored: AtomicBool,
+    /// Files of an earlier run are left.
+    has_earlier: AtomicBool,
     has_ended: AtomicBool,
 }
 
@@ -110,6 +112,7 @@ impl RequestLedger {
             refused_requests: AtomicU64::new(0),
             cut_files: AtomicU64::new(0),
             is_restored: AtomicBool::new(false),
+            has_earlier: AtomicBool::new(false),
             has_ended: AtomicBool::new(false),
         })
     }
@@ -280,6 +283,16 @@ impl RequestLedger {
     /// Whether that is so.
     pub fn is_restored(&self) -> bool {
         self.is_restored.load(Ordering::Acquire)
+    }
+
+    /// Files of an earlier run are left, or none is.
+    pub fn leaves_earlier(&self, has_earlier: bool) {
+        self.has_earlier.store(has_earlier, Ordering::Release);
+    }
+
+    /// Whether files of an earlier run are left.
+    pub(crate) fn has_earlier(&self) -> bool {
+        self.has_earlier.load(Ordering::Acquire)
     }
 
     /// The run has ended, and each of its spans with it.

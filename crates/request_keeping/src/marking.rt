@@ -1,6 +1,6 @@
 //! Which spans of an earlier run have their end.
 use crate::earlier::PendingRequest;
-use request_ledger::{LedgerSpan, TraceEnd, ended_of};
+use request_ledger::{LedgerEnd, LedgerSpan, ended_of};
 use span_ids::{SpanId, TraceId};
 use std::alloc::{AllocError, Global};
 use std::collections::HashMap;
@@ -19,7 +19,7 @@ pub struct SpanPlace {
 pub fn mark_ended(
     alloc: Global,
     spans: &mut Vec<SpanPlace>,
-    ends: &HashMap<TraceId, Vec<TraceEnd>>,
+    ends: &HashMap<TraceId, Vec<LedgerEnd>>,
     requests: &mut Vec<PendingRequest>,
 ) -> Result<(), AllocError> {
     // Those of a trace together, as they came; in one moment as they stand in the files.
@@ -42,7 +42,7 @@ pub fn mark_ended(
 fn mark_trace(
     alloc: Global,
     spans: &[SpanPlace],
-    ends: &HashMap<TraceId, Vec<TraceEnd>>,
+    ends: &HashMap<TraceId, Vec<LedgerEnd>>,
     requests: &mut Vec<PendingRequest>,
 ) -> Result<(), AllocError> {
     let Some(first) = spans.first() else {
@@ -71,10 +71,10 @@ fn mark_trace(
 
 /// Of what was told of a trace, how many of its spans were counted. So a trace of which some spans were handed over and
 /// others not is sent again whole, and decided on all of its spans: better twice than by a part of them.
-fn counted_alone(alloc: Global, told: &[TraceEnd]) -> Result<Vec<TraceEnd>, AllocError> {
+fn counted_alone(alloc: Global, told: &[LedgerEnd]) -> Result<Vec<LedgerEnd>, AllocError> {
     let mut counted = Vec::new(alloc);
     for end in told {
-        if let TraceEnd::Counted { .. } = end {
+        if let LedgerEnd::Counted { .. } = end {
             counted.push(*end)?;
         }
     }
