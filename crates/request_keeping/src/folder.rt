@@ -1,12 +1,15 @@
 //! The folder of a ledger, and the names of its files.
 use std::alloc::Global;
 use std::fs::{File, OpenOptions};
-use std::io::{ErrorKind, Read};
+use std::io::{ErrorKind, Read, Write};
 use std::rt::Files;
 use std::{fs, io};
 
 /// At most so many pieces of a list of names are read.
 const LONGEST_LIST: usize = 65_536;
+
+/// So many bytes are written to see whether there is room.
+const PROBE: usize = 16_384;
 
 /// A file of a ledger: of which run it is, which segment, and of which lane its requests are; or none, of what ended.
 #[derive(Clone, Copy, PartialEq, Eq)]
@@ -93,6 +96,16 @@ impl<R: Files<File = File> + Copy> LedgerFolder<R> {
             .append(true)
             .create_new(true)
             .open(&self.rt, path.as_str())
+    }
+
+    /// Whether something can be written. An error: it can't.
+    pub fn has_room(&self) -> io::Result<()> {
+        let path = self.path.as_str();
+        let name = format!(in self.alloc; "{path}/probe")?;
+        let mut file = fs::create(&self.rt, name.as_str())?;
+        let written = file.write_all(&[0; PROBE]);
+        fs::remove_file(&self.rt, name.as_str())?;
+        written
     }
 
     /// The bytes of a file.

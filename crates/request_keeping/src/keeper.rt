@@ -115,20 +115,23 @@ impl<R: Files<File = File> + Copy> Keeper<R> {
         let has_noted = self.notes_all(rt, ledger, settled).is_ok();
         let is_written = self.notes.write().is_ok();
         let is_broken = !has_noted || !is_written || lacks_file(rt, ledger);
-        if is_broken {
-            self.try_again(rt, ledger, now);
-        } else {
-            self.failed = None;
-            self.sync_if_due(now);
-            if self.is_due(ledger, now) && self.begin_segment(rt, ledger, now).is_err() {
-                self.failed = Some(now);
-            }
-            if let Ok(standings) = standings {
-                self.remove_settled(ledger, &standings);
+        if is_broken && self.failed.is_none() {
+            self.failed = Some(now);
+        }
+        match self.failed {
+            Some(since) => self.try_again(rt, ledger, since, now),
+            None => {
+                self.sync_if_due(now);
+                if self.is_due(ledger, now) && self.begin_segment(rt, ledger, now).is_err() {
+                    self.failed = Some(now);
+                }
+                if let Ok(standings) = standings {
+                    self.remove_settled(ledger, &standings);
+                }
             }
         }
         let is_full = !has_room(ledger.bytes(), SPARE, self.settings.max_mib);
-        ledger.shows(self.failed.is_some() || is_broken, is_full);
+        ledger.shows(self.failed.is_some(), is_full);
     }
 
     /// Notes what shards told, and what became of so many spans that the exporter took. An error: there is no memory; what
@@ -182,17 +185,17 @@ impl<R: Files<File = File> + Copy> Keeper<R> {
         }
     }
 
-    /// Opens other files in place of those that failed, where the last try was long enough ago.
-    fn try_again<W: Wait>(&mut self, rt: &W, ledger: &RequestLedger, now: u64) {
-        if let Some(failed) = self.failed {
-            if now < failed.saturating_add(TRY_AGAIN) {
-                return;
-            }
+    /// Opens other files in place of those that failed, since when it fails, where the last try was long enough ago and there
+    /// is room again.
+    fn try_again<W: Wait>(&mut self, rt: &W, ledger: &RequestLedger, since: u64, now: u64) {
+        if now < since.saturating_add(TRY_AGAIN) {
+            return;
         }
-        self.failed = Some(now);
-        if self.begin_segment(rt, ledger, now).is_ok() && self.notes.write().is_ok() {
-            self.failed = None;
-        }
+        // Empty files can be made on a disk that is full.
+        let is_back = self.folder.has_room().is_ok()
+            && self.begin_segment(rt, ledger, now).is_ok()
+            && self.notes.write().is_ok();
+        self.failed = if is_back { None } else { Some(now) };
     }
 
     /// Syncs what was written, where that is due.
