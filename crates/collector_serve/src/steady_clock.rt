@@ -1,5 +1,5 @@
 //! A clock that goes on by the time that passes.
-ghost use Rattle.std.specs.Prelude.{◌≡◌, ◌+◌, ◌-◌, ◌/◌, ◌^◌, min};
+ghost use Rattle.std.specs.Prelude.{◌≡◌, ◌+◌, ◌-◌, ◌/◌, ◌^◌, min, ⊤};
 ghost use Rattle.std.specs.Duration.{as_nanos};
 ghost use Rattle.collector_serve.specs.Moments.{moment_after};
 
@@ -64,6 +64,9 @@ impl<'r, R: Clock + Wait> SteadyClock<'r, R> {
 }
 
 impl<'r, R: Clock + Wait> Moments for SteadyClock<'r, R> {
+    // What a ledger's files have no clause can say.
+    ghost kept = { λ _ _ _ _ _. ⊤ };
+
     fn now(&self) -> u64 {
         let Some(began) = self.began else {
             return WallClock::new(self.rt).now();

@@ -8,3 +8,4 @@ pub mod StepLemmas
 mod TurnLemmas
 mod TurnPieces
 mod UnpackLemmas
+mod KeptLemmas

@@ -1,5 +1,6 @@
 //! The loop of a connection.
-ghost use Rattle.std.specs.Prelude.{◌≡◌, ◌+◌, [], ℕ, ◌<◌, ◌≤◌, List, ◌++◌, IsTrue, take, IfOk, Option, Some, Bool, false, true, ◌^◌, ◌-◌, nat_le, if◌then◌else◌};
+ghost use Rattle.std.specs.Prelude.{◌≡◌, ◌+◌, ◌⊎◌, [], ℕ, ◌<◌, ◌≤◌, List, ◌++◌, IsTrue, take, IfOk, Option, Some, Bool, false, true, ◌^◌, ◌-◌, nat_le, if◌then◌else◌};
+ghost use Rattle.lane_seq.specs.Replies.{is_received};
 ghost use Rattle.http_lane.specs.Intake.{Submits, intake, first_conn, connected};
 ghost use Rattle.lane_seq.specs.declared.preparing.Conn.{Conn};
 ghost use Rattle.std.specs.Io.KnownBytes.{Appends};
@@ -92,15 +93,17 @@ fn submit<
     text: &[u8],
     says_close: bool,
 ) -> (bool, EventFate)
-    ensures { (limit : ℕ) (is_packed : Bool) (body : List ℕ) → IsTextOf limit is_packed body text.now → Responds (Submits ShardPort.takes ShardPort.refuses) (Writer.contents writer.old) (Writer.contents writer.new) (intake lane.old conn.old (Ledger.counted counts.old)) (intake lane.new conn.new (Ledger.counted counts.new)) encoding limit is_packed (Some body) says_close result }
+    ensures responds { (limit : ℕ) (is_packed : Bool) (body : List ℕ) → IsTextOf limit is_packed body text.now → Responds (Submits ShardPort.takes ShardPort.refuses) (Writer.contents writer.old) (Writer.contents writer.new) (intake lane.old conn.old (Ledger.counted counts.old)) (intake lane.new conn.new (Ledger.counted counts.new)) encoding limit is_packed (Some body) says_close result }
+    // Nothing is written to a client whose spans were received, and whose request isn't kept.
+    ensures kept { result.1 ≡ EventFate.Written → (conn.new ≡ conn.old) ⊎ ((moment : ℕ) × Time.kept lent.now.clock.now conn.old.key moment encoding text.now) }
 {
-    let moment = lent.clock.now();
+    let (connection, moment) = (conn.key, lent.clock.now());
     let reply = lane.submit(lent.alloc, conn, encoding, text, moment);
     if !count_reply(counts, &reply) {
         return (says_close, EventFate::Uncounted);
     }
     // Nobody is told 200 whose request isn't kept where it has to be: the connection ends, and the client sends it again.
-    if !is_kept(lent, conn.key, moment, encoding, text, &reply) {
+    if !is_kept(lent, connection, moment, encoding, text, &reply) {
         return (says_close, EventFate::Unwritten);
     }
     let replied = Response::Replied {
@@ -118,7 +121,9 @@ fn is_kept<'l, Mark: HasStopMark, Time: Clock>(
     encoding: Encoding,
     text: &[u8],
     reply: &Reply,
-) -> bool {
+) -> bool
+    ensures { result ≡ true → is_received reply.now ≡ true → Time.kept lent.now.clock.now connection moment encoding text.now }
+{
     if reply.is_received() {
         return lent.clock.took(connection, moment, encoding, text);
     }

@@ -1,10 +1,11 @@
 //! Connections, a sink, a stop mark and a clock in memory.
-ghost use Rattle.std.specs.Prelude.{◌≡◌, IfOk, None, Some};
+ghost use Rattle.std.specs.Prelude.{◌≡◌, IfOk, None, Some, ⊤};
 
 use http_lane::{Clock as MomentClock, HasStopMark, Reads};
 use http_text::Allowed;
 use lane_worker::{Acceptor, Ticks};
-use span_ids::Moment;
+use otlp_encoding::Encoding;
+use span_ids::{ConnKey, Moment};
 use span_sink::{Sink, SinkFault};
 use std::alloc::{AllocError, Global};
 use std::io;
@@ -114,6 +115,12 @@ pub struct Standing;
 impl MomentClock for Standing {
     fn now(&self) -> u64 {
         1000
+    }
+
+    ghost kept = { λ _ _ _ _ _. ⊤ };
+
+    fn took(&self, _connection: ConnKey, _moment: u64, _encoding: Encoding, _text: &[u8]) -> bool {
+        true
     }
 }
 

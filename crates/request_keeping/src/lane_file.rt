@@ -1,7 +1,12 @@
 //! The file to which the requests of one lane go.
+ghost use Rattle.std.specs.Prelude.{◌≡◌, [], OnOk};
+ghost use Rattle.std.specs.Io.KnownBytes.{Appends};
+ghost use Rattle.request_ledger.specs.Format.{record_of};
+ghost use Rattle.request_ledger.specs.Entries.{request_bytes, request_of};
+
 use otlp_encoding::Encoding;
 use request_ledger::put_request;
-use span_ids::ConnKey;
+use span_ids::{ConnKey, Moment};
 use std::alloc::Global;
 use std::fs::File;
 use std::io::{ErrorKind, Write};
@@ -72,9 +77,7 @@ impl LaneFile {
             return Err(io::Error::from(ErrorKind::NotFound));
         };
         self.buffer.clear();
-        put_request(&mut self.buffer, moment, connection, encoding, text)?;
-        // One write, so that a kill leaves all of it or a part that is found to be one.
-        file.write_all(&self.buffer)?;
+        write_request(file, &mut self.buffer, moment, connection, encoding, text)?;
         if syncs {
             file.sync_data()?;
         }
@@ -85,4 +88,21 @@ impl LaneFile {
         }
         Ok(bytes)
     }
+}
+
+/// Writes the record of a request, and nothing else. It is put together in a buffer, which has to be empty.
+fn write_request<W: Write>(
+    out: &mut W,
+    buffer: &mut Vec<u8>,
+    moment: Moment,
+    connection: ConnKey,
+    encoding: Encoding,
+    text: &[u8],
+) -> io::Result<()>
+    requires { buffer.old.items ≡ [] }
+    ensures { OnOk result (Appends (W.contents out.old) (W.contents out.new) (record_of (request_bytes (request_of moment connection encoding text.now)))) }
+{
+    put_request(buffer, moment, connection, encoding, text)?;
+    // At once, so that a kill leaves all of it or a part that is found to be one.
+    out.write_all(buffer)
 }
