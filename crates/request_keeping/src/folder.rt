@@ -98,6 +98,11 @@ impl<R: Files<File = File> + Copy> LedgerFolder<R> {
             .open(&self.rt, path.as_str())
     }
 
+    /// Syncs the folder itself: the names of the files that were made in it.
+    pub fn sync(&self) -> io::Result<()> {
+        fs::open(&self.rt, self.path.as_str())?.sync_all()
+    }
+
     /// Whether something can be written. An error: it can't.
     pub fn has_room(&self) -> io::Result<()> {
         let path = self.path.as_str();

@@ -249,6 +249,9 @@ impl<R: Files<File = File> + Copy> Keeper<R> {
         }
         let notes = self.folder.create(self.number(segment, None))?;
         self.closed.reserve(1)?;
+        if 0 < self.settings.sync_interval {
+            self.folder.sync()?;
+        }
         self.sync_open();
         let last = turn_lanes(rt, ledger, files);
         self.notes.turn(notes);
