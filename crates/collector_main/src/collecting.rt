@@ -100,9 +100,9 @@ where
     let Ok((listener, door)) = opened(rt, alloc, &config, &charge, around.input, &mut events) else {
         return (writer, Outcome::CannotListen);
     };
-    if keeping.restore(rt, alloc, &config, &charge).is_err() {
+    let Ok(()) = keeping.restore(rt, alloc, &config, &charge) else {
         return (writer, Outcome::CannotListen);
-    }
+    };
     let ended = serve_to(rt, alloc, config, &listener, &charge, output, writer);
     keeping.ended(&charge, &ended.1);
     // Who connected meanwhile is answered, and then nobody listens any more (D-177).
