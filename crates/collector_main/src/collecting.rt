@@ -110,7 +110,7 @@ where
     drop(listener);
     decisions.end(rt);
     record.end(rt);
-    keeping.end(rt);
+    keeping.end(rt, &charge);
     say_lost(rt, alloc, &mut events, &charge);
     // Once the run has ended, and before the report is printed (D-194).
     charge.removes_sockets(rt);

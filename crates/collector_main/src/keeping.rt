@@ -109,14 +109,17 @@ impl<
         }
     }
 
-    /// Waits until all that was told is in the files.
-    pub fn end(self, rt: &T) {
+    /// The run is over: waits until nothing more is sent, and all that was told is in the files.
+    pub fn end(self, rt: &T, charge: &Charge) {
         let Keeping {
             thread,
             earlier: _,
             restoring,
         } = self;
         restoring.end(rt);
+        if let Some(ledger) = charge.board.ledger().ledger() {
+            ledger.closes_for_good();
+        }
         thread.end(rt);
     }
 }

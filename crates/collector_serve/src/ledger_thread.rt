@@ -1,7 +1,7 @@
 //! The thread that keeps the ledger's files.
 use crate::charge::Charge;
 use crate::steady_clock::SteadyClock;
-use http_lane::{Clock as Moments, HasStopMark};
+use http_lane::Clock as Moments;
 use request_keeping::{Keeper, RequestLedger};
 use std::alloc::Global;
 use std::fs::File;
@@ -14,7 +14,7 @@ use std::{io, thread};
 /// The time between two turns, in milliseconds.
 const PAUSE: u64 = 50;
 
-/// Keeps the ledger's files until the run is over. `None`: there is no ledger.
+/// Keeps the ledger's files until nothing more is told. `None`: there is no ledger.
 #[derive(Drop)]
 pub struct LedgerThread {
     thread: Option<JoinHandle<()>>,
@@ -39,7 +39,7 @@ impl LedgerThread {
         })
     }
 
-    /// The run is over, and its mark is set: waits until all that was told is in the files.
+    /// Nothing more is told, and the ledger knows: waits until all that was told is in the files.
     pub fn end<R: Threads + Wait>(self, rt: &R) {
         let LedgerThread { thread } = self;
         if let Some(thread) = thread {
@@ -48,7 +48,7 @@ impl LedgerThread {
     }
 }
 
-/// Keeps again and again, until the run is over.
+/// Keeps again and again, until nothing more is told.
 fn keep<T: Files<File = File> + Wait + Clock + Copy>(rt: &T, keeper: Keeper<T>, charge: &Charge) {
     let Some(ledger) = charge.board.ledger().ledger() else {
         return;
@@ -57,7 +57,7 @@ fn keep<T: Files<File = File> + Wait + Clock + Copy>(rt: &T, keeper: Keeper<T>, 
     let clock = SteadyClock::new(rt);
     for _ in rt.forever() {
         // Asked before the turn, so that what was told before the end is in it.
-        let is_over = charge.over.is_set();
+        let is_over = ledger.is_over();
         keeper.turn(rt, ledger, clock.now());
         if is_over {
             keeper.end(rt, ledger, clock.now(), ledger.has_ended());

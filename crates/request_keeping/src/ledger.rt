@@ -74,6 +74,7 @@ pub struct RequestLedger {
     /// Files of an earlier run are left.
     has_earlier: AtomicBool,
     has_ended: AtomicBool,
+    is_over: AtomicBool,
 }
 
 impl RequestLedger {
@@ -114,6 +115,7 @@ impl RequestLedger {
             is_restored: AtomicBool::new(false),
             has_earlier: AtomicBool::new(false),
             has_ended: AtomicBool::new(false),
+            is_over: AtomicBool::new(false),
         })
     }
 
@@ -303,6 +305,16 @@ impl RequestLedger {
     /// Whether that is so.
     pub fn has_ended(&self) -> bool {
         self.has_ended.load(Ordering::Acquire)
+    }
+
+    /// Nothing more is told.
+    pub fn closes_for_good(&self) {
+        self.is_over.store(true, Ordering::Release);
+    }
+
+    /// Whether nothing more is told.
+    pub fn is_over(&self) -> bool {
+        self.is_over.load(Ordering::Acquire)
     }
 
     /// How many requests of an earlier run were received again, with how many spans, and how many were refused.
