@@ -3,7 +3,7 @@ use crate::charge::Charge;
 use crate::serving::port_alone;
 use http_lane::HasStopMark;
 use otlp_encoding::Encoding;
-use request_keeping::{Earlier, LedgerFolder, LedgerNews, RequestLedger};
+use request_keeping::{Earlier, LedgerFolder, LedgerNews, LoadedFile};
 use std::alloc::{AllocError, Global};
 use std::fs::File;
 use std::io::{ErrorKind, Read, Write};
@@ -16,6 +16,9 @@ use std::{io, thread};
 
 /// The pause before a request is sent again that was answered 503, in milliseconds.
 const PAUSE: u64 = 20;
+
+/// So many threads send, each the requests of its lanes.
+const SHARES: u16 = 4;
 
 /// The longest wait for an answer, in seconds.
 const PATIENCE: u64 = 30;
@@ -56,9 +59,14 @@ impl Restoring {
     ) -> io::Result<Self> {
         let own = *rt;
         let address = own_address(alloc, address)?;
-        let thread = thread::spawn(rt, move || {
-            restore(&own, alloc, address.as_str(), &folder, earlier, &charge)
-        })?;
+        let sending = Sending {
+            alloc,
+            address,
+            folder,
+            earlier: Arc::new(alloc, earlier)?,
+            charge,
+        };
+        let thread = thread::spawn(rt, move || restore(&own, sending))?;
         Ok(Restoring {
             thread: Some(thread),
         })
@@ -82,65 +90,147 @@ fn own_address(alloc: Global, address: &str) -> io::Result<String> {
     Ok(own)
 }
 
+/// What is sent, and where.
+#[derive(Drop)]
+struct Sending<T: Files<File = File>> {
+    alloc: Global,
+    address: String,
+    folder: Arc<LedgerFolder<T>, Global>,
+    earlier: Arc<Earlier, Global>,
+    charge: Arc<Charge, Global>,
+}
+
+impl<T: Files<File = File>> Sending<T> {
+    /// The same, for another thread.
+    fn try_clone(&self) -> io::Result<Self> {
+        Ok(Sending {
+            alloc: self.alloc,
+            address: String::from_str(self.alloc, self.address.as_str())?,
+            folder: Arc::try_clone(&self.folder)?,
+            earlier: Arc::try_clone(&self.earlier)?,
+            charge: Arc::try_clone(&self.charge)?,
+        })
+    }
+}
+
+/// What became of the requests that were to be sent.
+#[derive(Clone, Copy, PartialEq, Eq)]
+enum SendEnd {
+    /// All were taken.
+    All,
+    /// Some were refused, and stay.
+    Part,
+    /// The collector closes, or can't be reached: the rest waits for the next start.
+    Stopped,
+}
+
 /// Sends all that an earlier run left, and then removes its files. What isn't taken stays for the next start.
 fn restore<
-    T: Files<File = File> + Net<Listener = TcpListener, Stream = TcpStream> + Wait + Clock + Copy,
->(
-    rt: &T,
-    alloc: Global,
-    address: &str,
-    folder: &LedgerFolder<T>,
-    earlier: Earlier,
-    charge: &Charge,
-) {
-    let Some(ledger) = charge.board.ledger().ledger() else {
+    T: Files<File = File>
+        + Net<Listener = TcpListener, Stream = TcpStream>
+        + Threads
+        + Wait
+        + Clock
+        + Copy
+        + Send
+        + Sync
+        + 'static,
+>(rt: &T, sending: Sending<T>) {
+    let Some(ledger) = sending.charge.board.ledger().ledger() else {
         return;
     };
-    let mut earlier = earlier;
-    ledger.cuts(earlier.cut());
-    match send_all(rt, alloc, address, folder, &mut earlier, charge, ledger) {
-        Ok(true) => {
-            for number in earlier.files() {
-                let _ = folder.remove(*number);
+    ledger.cuts(sending.earlier.cut());
+    match send_shares(rt, &sending) {
+        SendEnd::All => {
+            for number in sending.earlier.files() {
+                let _ = sending.folder.remove(*number);
             }
             ledger.leaves_earlier(false);
             ledger.has_restored();
         }
-        Ok(false) => ledger.has_restored(),
-        // The collector closes, or can't be reached: the rest waits for the next start.
-        Err(_) => {}
+        SendEnd::Part => ledger.has_restored(),
+        SendEnd::Stopped => {}
     }
 }
 
-/// Sends each request, and answers whether all of them were taken. An error: the rest wasn't sent.
-fn send_all<
-    T: Files<File = File> + Net<Listener = TcpListener, Stream = TcpStream> + Wait + Clock + Copy,
->(
-    rt: &T,
-    alloc: Global,
-    address: &str,
-    folder: &LedgerFolder<T>,
-    earlier: &mut Earlier,
-    charge: &Charge,
-    ledger: &RequestLedger,
-) -> io::Result<bool> {
-    let mut taken_all = true;
-    let count = earlier.requests().len();
-    if count == 0 {
-        return Ok(true);
-    }
-    let mut stream = connected(rt, address)?;
-    for at in 0..count {
-        let bodies = earlier.bodies_of(folder, at)?;
-        let mut is_taken = true;
-        for (encoding, body) in bodies {
-            is_taken &= send(rt, alloc, &mut stream, charge, encoding, &body)?;
+/// Sends all by some threads, each its share.
+fn send_shares<
+    T: Files<File = File>
+        + Net<Listener = TcpListener, Stream = TcpStream>
+        + Threads
+        + Wait
+        + Clock
+        + Copy
+        + Send
+        + Sync
+        + 'static,
+>(rt: &T, sending: &Sending<T>) -> SendEnd {
+    let mut threads = Vec::new(sending.alloc);
+    let mut end = SendEnd::All;
+    for share in 0..SHARES {
+        match share_thread(rt, sending, share) {
+            Ok(thread) => {
+                if threads.push(thread).is_err() {
+                    end = SendEnd::Stopped;
+                }
+            }
+            Err(_) => end = SendEnd::Stopped,
         }
-        let Some(request) = earlier.requests().get(at) else {
-            break;
-        };
+    }
+    for thread in threads {
+        end = worse(end, thread.join(rt));
+    }
+    end
+}
+
+/// A thread that sends this share.
+fn share_thread<
+    T: Files<File = File>
+        + Net<Listener = TcpListener, Stream = TcpStream>
+        + Threads
+        + Wait
+        + Clock
+        + Copy
+        + Send
+        + Sync
+        + 'static,
+>(rt: &T, sending: &Sending<T>, share: u16) -> io::Result<JoinHandle<SendEnd>> {
+    let own = *rt;
+    let sending = sending.try_clone()?;
+    thread::spawn(rt, move || match send_share(&own, &sending, share) {
+        Ok(true) => SendEnd::All,
+        Ok(false) => SendEnd::Part,
+        Err(_) => SendEnd::Stopped,
+    })
+}
+
+/// What became of two parts of the requests.
+fn worse(one: SendEnd, other: SendEnd) -> SendEnd {
+    match (one, other) {
+        (SendEnd::All, end) | (end, SendEnd::All) => end,
+        (SendEnd::Part, end) | (end, SendEnd::Part) => end,
+        (SendEnd::Stopped, SendEnd::Stopped) => SendEnd::Stopped,
+    }
+}
+
+/// Sends each request of a share, and answers whether all of them were taken. Those of one connection are in one share, in
+/// their order. An error: the rest wasn't sent.
+fn send_share<
+    T: Files<File = File> + Net<Listener = TcpListener, Stream = TcpStream> + Wait + Clock + Copy,
+>(rt: &T, sending: &Sending<T>, share: u16) -> io::Result<bool> {
+    let Some(ledger) = sending.charge.board.ledger().ledger() else {
+        return Ok(true);
+    };
+    let mut taken_all = true;
+    let mut loaded = LoadedFile::none();
+    let mut stream = None;
+    for (at, request) in sending.earlier.requests().iter().enumerate() {
         let (segment, lane, place) = request.at();
-        if is_taken {
+        if lane % SHARES != share {
+            continue;
+        }
+        let bodies = sending.earlier.bodies_of(&sending.folder, &mut loaded, at)?;
+        if send_bodies(rt, sending, &mut stream, bodies)? {
             ledger.tell(
                 rt,
                 LedgerNews::Again {
@@ -156,6 +246,31 @@ fn send_all<
         }
     }
     Ok(taken_all)
+}
+
+/// Sends the bodies of one request, over a connection that is made with the first of all, and answers whether they were
+/// taken.
+fn send_bodies<
+    T: Files<File = File> + Net<Listener = TcpListener, Stream = TcpStream> + Wait + Clock + Copy,
+>(
+    rt: &T,
+    sending: &Sending<T>,
+    stream: &mut Option<TcpStream>,
+    bodies: Vec<(Encoding, Vec<u8>)>,
+) -> io::Result<bool> {
+    let mut is_taken = true;
+    for (encoding, body) in bodies {
+        if stream.is_none() {
+            *stream = Some(connected(rt, sending.address.as_str())?);
+        }
+        let Some(to) = stream else {
+            return Ok(false);
+        };
+        if !send(rt, sending.alloc, to, &sending.charge, encoding, &body)? {
+            is_taken = false;
+        }
+    }
+    Ok(is_taken)
 }
 
 /// A connection to the collector itself.

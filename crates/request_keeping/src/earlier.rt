@@ -54,8 +54,19 @@ pub struct Earlier {
     files: Vec<FileNumber>,
     /// How many files have an end that can't be read.
     cut: u64,
-    /// The bytes of the file that was read last.
-    loaded: Option<(FileNumber, Vec<u8>)>,
+}
+
+/// The bytes of the file that was read last, if one was.
+#[derive(Drop)]
+pub struct LoadedFile {
+    file: Option<(FileNumber, Vec<u8>)>,
+}
+
+impl LoadedFile {
+    /// None was read.
+    pub fn none() -> Self {
+        LoadedFile { file: None }
+    }
 }
 
 impl Earlier {
@@ -70,7 +81,6 @@ impl Earlier {
             requests: Vec::new(alloc),
             files,
             cut: 0,
-            loaded: None,
         };
         let again = earlier.taken_again(folder)?;
         for run in latest_first(alloc, &earlier.files)? {
@@ -191,24 +201,26 @@ impl Earlier {
         Ok(())
     }
 
-    /// The bodies by which the pending spans of the request at this place of the list are sent again.
+    /// The bodies by which the pending spans of the request at this place of the list are sent again. Its file is read where
+    /// another one was read last.
     pub fn bodies_of<R: Files<File = File> + Copy>(
-        &mut self,
+        &self,
         folder: &LedgerFolder<R>,
+        loaded: &mut LoadedFile,
         at: usize,
     ) -> io::Result<Vec<(Encoding, Vec<u8>)>> {
         let mut bodies = Vec::new(self.alloc);
         let Some(request) = self.requests.get(at) else {
             return Ok(bodies);
         };
-        let is_loaded = match &self.loaded {
+        let is_loaded = match &loaded.file {
             Some((number, _)) => *number == request.file,
             None => false,
         };
         if !is_loaded {
-            self.loaded = Some((request.file, folder.read(request.file)?));
+            loaded.file = Some((request.file, folder.read(request.file)?));
         }
-        let Some((_, bytes)) = &self.loaded else {
+        let Some((_, bytes)) = &loaded.file else {
             return Ok(bodies);
         };
         let place = usize::try_from(request.place).unwrap_or(usize::MAX);

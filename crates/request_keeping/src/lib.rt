@@ -21,7 +21,7 @@ mod marking;
 mod notes;
 mod releases;
 
-pub use earlier::{Earlier, PendingRequest};
+pub use earlier::{Earlier, LoadedFile, PendingRequest};
 pub use folder::{FileNumber, LedgerFolder};
 pub use keeper::{Keeper, KeeperSettings};
 pub use ledger::{LedgerNews, RequestLedger};
