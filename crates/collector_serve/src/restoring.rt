@@ -197,11 +197,17 @@ fn share_thread<
 >(rt: &T, sending: &Sending<T>, share: u16) -> io::Result<JoinHandle<SendEnd>> {
     let own = *rt;
     let sending = sending.try_clone()?;
-    thread::spawn(rt, move || match send_share(&own, &sending, share) {
+    let thread = thread::spawn(rt, move || end_of(send_share(&own, &sending, share)))?;
+    Ok(thread)
+}
+
+/// What became of a share: whether all of it was taken, or an error, where the rest wasn't sent.
+fn end_of(sent: io::Result<bool>) -> SendEnd {
+    match sent {
         Ok(true) => SendEnd::All,
         Ok(false) => SendEnd::Part,
         Err(_) => SendEnd::Stopped,
-    })
+    }
 }
 
 /// What became of two parts of the requests.
