@@ -100,7 +100,7 @@ struct Sending<T: Files<File = File>> {
     charge: Arc<Charge, Global>,
 }
 
-impl<T: Files<File = File>> Sending<T> {
+impl<T: Files<File = File> + Copy> Sending<T> {
     /// The same, for another thread.
     fn try_clone(&self) -> io::Result<Self> {
         Ok(Sending {
