@@ -140,7 +140,7 @@ fn restore<
         return;
     };
     ledger.cuts(sending.earlier.cut());
-    match send_shares(rt, &sending) {
+    match send_runs(rt, &sending) {
         SendEnd::All => {
             for number in sending.earlier.files() {
                 let _ = sending.folder.remove(*number);
@@ -153,8 +153,9 @@ fn restore<
     }
 }
 
-/// Sends all by some threads, each its share.
-fn send_shares<
+/// Sends what each run left, the latest first, and one after the other: so what a run had taken again of another is before
+/// what it hadn't.
+fn send_runs<
     T: Files<File = File>
         + Net<Listener = TcpListener, Stream = TcpStream>
         + Threads
@@ -165,10 +166,32 @@ fn send_shares<
         + Sync
         + 'static,
 >(rt: &T, sending: &Sending<T>) -> SendEnd {
+    let Ok(runs) = sending.earlier.runs() else {
+        return SendEnd::Stopped;
+    };
+    let mut end = SendEnd::All;
+    for run in runs {
+        end = worse(end, send_shares(rt, sending, run));
+    }
+    end
+}
+
+/// Sends what a run left by some threads, each its share.
+fn send_shares<
+    T: Files<File = File>
+        + Net<Listener = TcpListener, Stream = TcpStream>
+        + Threads
+        + Wait
+        + Clock
+        + Copy
+        + Send
+        + Sync
+        + 'static,
+>(rt: &T, sending: &Sending<T>, run: u64) -> SendEnd {
     let mut threads = Vec::new(sending.alloc);
     let mut end = SendEnd::All;
     for share in 0..SHARES {
-        match share_thread(rt, sending, share) {
+        match share_thread(rt, sending, run, share) {
             Ok(thread) => {
                 if threads.push(thread).is_err() {
                     end = SendEnd::Stopped;
@@ -194,10 +217,10 @@ fn share_thread<
         + Send
         + Sync
         + 'static,
->(rt: &T, sending: &Sending<T>, share: u16) -> io::Result<JoinHandle<SendEnd>> {
+>(rt: &T, sending: &Sending<T>, run: u64, share: u16) -> io::Result<JoinHandle<SendEnd>> {
     let own = *rt;
     let sending = sending.try_clone()?;
-    let thread = thread::spawn(rt, move || end_of(send_share(&own, &sending, share)))?;
+    let thread = thread::spawn(rt, move || end_of(send_share(&own, &sending, run, share)))?;
     Ok(thread)
 }
 
@@ -223,7 +246,7 @@ fn worse(one: SendEnd, other: SendEnd) -> SendEnd {
 /// their order. An error: the rest wasn't sent.
 fn send_share<
     T: Files<File = File> + Net<Listener = TcpListener, Stream = TcpStream> + Wait + Clock + Copy,
->(rt: &T, sending: &Sending<T>, share: u16) -> io::Result<bool> {
+>(rt: &T, sending: &Sending<T>, run: u64, share: u16) -> io::Result<bool> {
     let Some(ledger) = sending.charge.board.ledger().ledger() else {
         return Ok(true);
     };
@@ -232,7 +255,7 @@ fn send_share<
     let mut stream = None;
     for (at, request) in sending.earlier.requests().iter().enumerate() {
         let (segment, lane, place) = request.at();
-        if lane % SHARES != share {
+        if request.run() != run || lane % SHARES != share {
             continue;
         }
         let bodies = sending.earlier.bodies_of(&sending.folder, &mut loaded, at)?;

@@ -32,6 +32,11 @@ impl PendingRequest {
         (self.file.segment, self.file.lane.unwrap_or(0), self.place)
     }
 
+    /// The run that took it.
+    pub fn run(&self) -> u64 {
+        self.file.run
+    }
+
     /// How many of its spans have no end.
     pub fn spans(&self) -> u64 {
         self.spans
@@ -92,6 +97,11 @@ impl Earlier {
     /// The requests with spans that have no end, in the order in which they are to be sent again.
     pub fn requests(&self) -> &[PendingRequest] {
         &self.requests
+    }
+
+    /// The runs of which there are files, the latest first.
+    pub fn runs(&self) -> Result<Vec<u64>, AllocError> {
+        latest_first(self.alloc, &self.files)
     }
 
     /// How many files have an end that can't be read.
