@@ -297,6 +297,8 @@ fn send_bodies<
         };
         if !send(rt, sending.alloc, to, &sending.charge, encoding, &body)? {
             is_taken = false;
+            // Such an answer may end the connection.
+            *stream = None;
         }
     }
     Ok(is_taken)
