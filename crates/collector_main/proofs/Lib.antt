@@ -1,3 +1,4 @@
 pub mod Courses
 pub mod Rooms
 pub mod Serving
+pub mod Waiting

@@ -1,3 +1,4 @@
 pub mod Closing
 pub mod Serving
+pub mod Waiting
 pub mod Ending

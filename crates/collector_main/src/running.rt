@@ -3,6 +3,7 @@ ghost use Rattle.std.specs.Prelude.{◌≡◌};
 ghost use Rattle.tsc_config.specs.Values.{InRange};
 ghost use Rattle.collector_main.specs.Serving.{RunsTo, PrintsTo};
 ghost use Rattle.collector_main.specs.Serving.{served_to};
+ghost use Rattle.collector_main.specs.Waiting.{waits};
 
 use crate::sending::send_with;
 use collector_board::StoppingSink;
@@ -22,6 +23,34 @@ pub fn serve_with<
     T: Net<Listener = TcpListener, Stream = TcpStream> + Machine,
     W: Write + Drop,
 >(
+    rt: &T,
+    alloc: Global,
+    config: Config,
+    listener: &'s TcpListener,
+    shared: &'s Charge,
+    writer: W,
+) -> (W, Outcome)
+    requires { InRange config }
+    ensures { RunsTo config (W.contents writer) (W.contents result.0) result.1 }
+{
+    let config = waiting_where_kept(config);
+    serve_as(rt, alloc, config, listener, shared, writer)
+}
+
+/// The configuration of a run whose lanes wait for room where requests are kept: what is pending at the start is more than a
+/// queue may hold, and no span of it is to be counted under a full one.
+fn waiting_where_kept(config: Config) -> Config
+    requires { InRange config }
+    ensures waits { result ≡ record config { waits_for_room = waits config } }
+    ensures ranges { InRange result }
+{
+    let mut config = config;
+    config.waits_for_room = config.waits_for_room || !config.ledger.path.as_str().is_empty();
+    config
+}
+
+/// Takes requests on a listener by a configuration, and prints the lines, or sends them to a backend, or both.
+fn serve_as<'s, T: Net<Listener = TcpListener, Stream = TcpStream> + Machine, W: Write + Drop>(
     rt: &T,
     alloc: Global,
     config: Config,

@@ -140,7 +140,7 @@ fn restore<
         return;
     };
     ledger.cuts(sending.earlier.cut());
-    match send_runs(rt, &sending) {
+    match send_all(rt, &sending) {
         SendEnd::All => {
             for number in sending.earlier.files() {
                 let _ = sending.folder.remove(*number);
@@ -153,9 +153,10 @@ fn restore<
     }
 }
 
-/// Sends what each run left, the latest first, and one after the other: so what a run had taken again of another is before
-/// what it hadn't.
-fn send_runs<
+/// Sends what all runs left, the latest first: so what a run had taken again of another comes before what it hadn't. Where
+/// one run is left some threads send, each the requests of its lanes: a connection's all lie in one lane. Where more are,
+/// one sends all, so that what it sends lies in one lane again.
+fn send_all<
     T: Files<File = File>
         + Net<Listener = TcpListener, Stream = TcpStream>
         + Threads
@@ -166,17 +167,14 @@ fn send_runs<
         + Sync
         + 'static,
 >(rt: &T, sending: &Sending<T>) -> SendEnd {
-    let Ok(runs) = sending.earlier.runs() else {
-        return SendEnd::Stopped;
-    };
-    let mut end = SendEnd::All;
-    for run in runs {
-        end = worse(end, send_shares(rt, sending, run));
+    match sending.earlier.runs() {
+        Ok(runs) if runs.len() > 1 => end_of(send_share(rt, sending, None)),
+        Ok(_) => send_shares(rt, sending),
+        Err(_) => SendEnd::Stopped,
     }
-    end
 }
 
-/// Sends what a run left by some threads, each its share.
+/// Sends what was left by some threads, each its share.
 fn send_shares<
     T: Files<File = File>
         + Net<Listener = TcpListener, Stream = TcpStream>
@@ -187,11 +185,11 @@ fn send_shares<
         + Send
         + Sync
         + 'static,
->(rt: &T, sending: &Sending<T>, run: u64) -> SendEnd {
+>(rt: &T, sending: &Sending<T>) -> SendEnd {
     let mut threads = Vec::new(sending.alloc);
     let mut end = SendEnd::All;
     for share in 0..SHARES {
-        match share_thread(rt, sending, run, share) {
+        match share_thread(rt, sending, share) {
             Ok(thread) => {
                 if threads.push(thread).is_err() {
                     end = SendEnd::Stopped;
@@ -217,10 +215,10 @@ fn share_thread<
         + Send
         + Sync
         + 'static,
->(rt: &T, sending: &Sending<T>, run: u64, share: u16) -> io::Result<JoinHandle<SendEnd>> {
+>(rt: &T, sending: &Sending<T>, share: u16) -> io::Result<JoinHandle<SendEnd>> {
     let own = *rt;
     let sending = sending.try_clone()?;
-    let thread = thread::spawn(rt, move || end_of(send_share(&own, &sending, run, share)))?;
+    let thread = thread::spawn(rt, move || end_of(send_share(&own, &sending, Some(share))))?;
     Ok(thread)
 }
 
@@ -242,11 +240,19 @@ fn worse(one: SendEnd, other: SendEnd) -> SendEnd {
     }
 }
 
-/// Sends each request of a share, and answers whether all of them were taken. Those of one connection are in one share, in
-/// their order. An error: the rest wasn't sent.
+/// Whether the requests of a lane are in this share, or in that of all.
+fn is_of(lane: u16, share: Option<u16>) -> bool {
+    match share {
+        Some(share) => lane % SHARES == share,
+        None => true,
+    }
+}
+
+/// Sends each request of a share, or all, and answers whether all of them were taken. Those of one connection are in one
+/// share, in their order. An error: the rest wasn't sent.
 fn send_share<
     T: Files<File = File> + Net<Listener = TcpListener, Stream = TcpStream> + Wait + Clock + Copy,
->(rt: &T, sending: &Sending<T>, run: u64, share: u16) -> io::Result<bool> {
+>(rt: &T, sending: &Sending<T>, share: Option<u16>) -> io::Result<bool> {
     let Some(ledger) = sending.charge.board.ledger().ledger() else {
         return Ok(true);
     };
@@ -255,7 +261,7 @@ fn send_share<
     let mut stream = None;
     for (at, request) in sending.earlier.requests().iter().enumerate() {
         let (segment, lane, place) = request.at();
-        if request.run() != run || lane % SHARES != share {
+        if !is_of(lane, share) {
             continue;
         }
         let bodies = sending.earlier.bodies_of(&sending.folder, &mut loaded, at)?;

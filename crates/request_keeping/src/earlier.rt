@@ -32,11 +32,6 @@ impl PendingRequest {
         (self.file.segment, self.file.lane.unwrap_or(0), self.place)
     }
 
-    /// The run that took it.
-    pub fn run(&self) -> u64 {
-        self.file.run
-    }
-
     /// How many of its spans have no end.
     pub fn spans(&self) -> u64 {
         self.spans
