@@ -16,12 +16,12 @@ use Rattle.collector_main.specs.Serving.{TakesTo, SendsTo, RunsTo}
 abbrev pub waiting : Config → (waits : Bool) → Config
 waiting config waits = record config { waits_for_room = waits }
 
-module _ (config : Config) (waits : Bool) (as : config.waits_for_room ≡ true → waits ≡ true) where
+module _ (config : Config) (waits : Bool) (same : config.waits_for_room ≡ true → waits ≡ true) where
   run : (manner : Manner) (old new : LineSinkState) (report : List ℕ) → IsCoreRunTo manner (waiting config waits) old new report → IsCoreRunTo manner config old new report
-  run manner old new report r = record { threads = r.threads; end = r.end; ran = r.ran; reports = r.reports; fits = r.fits; never_full = λ e. r.never_full (as e); moments = r.moments; same_ticks = r.same_ticks; holds = r.holds }
+  run manner old new report r = record { threads = r.threads; end = r.end; ran = r.ran; reports = r.reports; fits = r.fits; never_full = λ e. r.never_full (same e); moments = r.moments; same_ticks = r.same_ticks; holds = r.holds }
 
   beyond : (manner : Manner) (old new : LineSinkState) → IsCoreRunBeyondTo manner (waiting config waits) old new → IsCoreRunBeyondTo manner config old new
-  beyond manner old new r = record { threads = r.threads; end = r.end; ran = r.ran; passes = r.passes; never_full = λ e. r.never_full (as e); moments = r.moments; same_ticks = r.same_ticks; holds = r.holds }
+  beyond manner old new r = record { threads = r.threads; end = r.end; ran = r.ran; passes = r.passes; never_full = λ e. r.never_full (same e); moments = r.moments; same_ticks = r.same_ticks; holds = r.holds }
 
   tells : (manner : Manner) (taken : Option (List ℕ)) (failures : ℕ) (taken_after : Option (List ℕ)) (failures_after : ℕ) (answer : Result Report ServeFault)
       → CoreRunTellsTo manner (waiting config waits) taken failures taken_after failures_after answer → CoreRunTellsTo manner config taken failures taken_after failures_after answer
