@@ -4,7 +4,7 @@ ghost use Rattle.std.specs.List.{list_any};
 ghost use Rattle.lane_queue.specs.Ends.{IsNew};
 ghost use Rattle.run_weave.specs.Jobs.{ExporterDid};
 
-use crate::telling::Settled;
+use crate::telling::Told;
 use crate::watched_inbox::work_watched;
 use drop_ledger::{Report, Tally};
 use job_threads::Job;
@@ -61,7 +61,7 @@ impl<'s, Output: Destination + Drop, ExportRoom: Room, Observer: Watcher, Runtim
             receiver,
             observer,
         } = self;
-        let tally = Tally::new(Settled::new(observer));
+        let tally = Tally::new(Told::of_exporter(observer));
         let end = work_watched(rt, exporter, receiver, tally, observer);
         let is_full = end.tally.is_full();
         ExporterLeft {

@@ -1,4 +1,4 @@
-//! Reports whose additions are told to a watcher.
+//! A report whose additions are told to a watcher.
 ghost use Rattle.std.specs.Prelude.{◌≡◌, replicate};
 
 use drop_ledger::{Count, Counter, CounterOverflow, Report};
@@ -9,6 +9,8 @@ use thread_watch::Watcher;
 pub struct Told<'w, W> {
     report: Report,
     watcher: &'w W,
+    /// It is the exporter's, which counts spans that it has taken: these are settled.
+    settles: bool,
 }
 
 impl<'w, W: Watcher> Told<'w, W> {
@@ -19,6 +21,18 @@ impl<'w, W: Watcher> Told<'w, W> {
         Told {
             report: Report::new(),
             watcher,
+            settles: false,
+        }
+    }
+
+    /// The exporter's, which tells too that spans which it had taken are settled. All counts are 0.
+    pub fn of_exporter(watcher: &'w W) -> Self
+        ensures { result.report ≡ replicate 9 0 }
+    {
+        Told {
+            report: Report::new(),
+            watcher,
+            settles: true,
         }
     }
 
@@ -37,41 +51,9 @@ impl<'w, W: Watcher> Counter for Told<'w, W> {
         // First to the thread's own report, and only then to what is shown: no count rests on the watcher (D-195).
         self.report.add(count, n)?;
         self.watcher.counted(count.place(), n);
-        Ok(())
-    }
-}
-
-/// The exporter's report, which tells a watcher each addition, and that so many of the spans that it had taken are
-/// settled.
-#[derive(Drop)]
-pub struct Settled<'w, W> {
-    told: Told<'w, W>,
-}
-
-impl<'w, W: Watcher> Settled<'w, W> {
-    /// All counts are 0.
-    pub fn new(watcher: &'w W) -> Self
-        ensures { result.told.report ≡ replicate 9 0 }
-    {
-        Settled {
-            told: Told::new(watcher),
+        if self.settles {
+            self.watcher.settled(n);
         }
-    }
-
-    /// Gives the report.
-    pub fn end(self) -> Report
-        ensures { result ≡ self.entry.told.report }
-    {
-        self.told.end()
-    }
-}
-
-impl<'w, W: Watcher> Counter for Settled<'w, W> {
-    ghost counted = { λ s. s.told.report };
-
-    fn add(&mut self, count: Count, n: u64) -> Result<(), CounterOverflow> {
-        self.told.add(count, n)?;
-        self.told.watcher.settled(n);
         Ok(())
     }
 }

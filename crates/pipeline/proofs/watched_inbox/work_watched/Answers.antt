@@ -8,10 +8,10 @@ use Rattle.pipeline.proofs.watched_inbox.work_watched.Goals as goal
 
 pub returns : goal.returns
 returns g c =
-    let w = c.work_from.ensures.works in
+    let w = c.work_from-exporter.ensures.works in
     let turns = w.2.turns in
-    let new = c.work_from.result.inbox.receiver in
-    let pops = watched_pops (λ i. i.receiver) _ turns _ c.work_from.result.inbox w.2.pops in
+    let new = c.work_from-exporter.result.inbox.receiver in
+    let pops = watched_pops (λ i. i.receiver) _ turns _ c.work_from-exporter.result.inbox w.2.pops in
     let merged = merged_in _ [] turns c.args.receiver new (merge_none c.args.receiver.ends c.requires.new_queues) pops in
     record {
       works = (w.0, w.1 new (subst (λ l. IsMergeOf new.ends (shipments_in l)) (sym w.2.makes) merged));
