@@ -13,6 +13,7 @@ use lane_queue::Brake;
 use metrics_text::{PolicyNumbers, ShardNumbers};
 use otlp_types::{Text, TryClone};
 use policy_tree::Policies;
+use request_keeping::RequestLedger;
 use std::alloc::{AllocError, Global};
 use std::sync::atomic::{AtomicBool, AtomicU64, Ordering};
 
@@ -139,15 +140,9 @@ impl Board {
         self.record.as_ref()
     }
 
-    /// From now on there is a ledger, of so many lanes and shards; it syncs each request, if `syncs`.
-    pub fn keep_ledger(
-        &mut self,
-        alloc: Global,
-        lanes: usize,
-        shards: usize,
-        syncs: bool,
-    ) -> Result<(), AllocError> {
-        self.ledger.keep(alloc, lanes, shards, syncs)
+    /// From now on there is this ledger.
+    pub fn keep_ledger(&mut self, ledger: RequestLedger) {
+        self.ledger.keep(ledger);
     }
 
     /// What is told to the ledger, where there is one.

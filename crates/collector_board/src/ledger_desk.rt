@@ -3,7 +3,6 @@ use decision_line::{DecidedTrace, EvictedTrace, LateSpans};
 use otlp_encoding::Encoding;
 use request_keeping::{LedgerNews, RequestLedger};
 use span_ids::{ConnKey, SpanId, TraceId, Verdict};
-use std::alloc::{AllocError, Global};
 use std::sync::Wait;
 use std::sync::atomic::{AtomicBool, Ordering};
 use thread_watch::ShardLoad;
@@ -25,16 +24,9 @@ impl LedgerDesk {
         }
     }
 
-    /// From now on there is one, of so many lanes and shards; it syncs each request, if `syncs`.
-    pub fn keep(
-        &mut self,
-        alloc: Global,
-        lanes: usize,
-        shards: usize,
-        syncs: bool,
-    ) -> Result<(), AllocError> {
-        self.ledger = Some(RequestLedger::new(alloc, lanes, shards, syncs)?);
-        Ok(())
+    /// From now on there is this one.
+    pub fn keep(&mut self, ledger: RequestLedger) {
+        self.ledger = Some(ledger);
     }
 
     /// The ledger, if there is one.

@@ -149,11 +149,10 @@ impl<R: Files<File = File> + Copy> Keeper<R> {
             self.notes_news(news)?;
         }
         for _ in 0..settled {
-            let Some((trace, span)) = ledger.take_pulled(rt) else {
+            let Some(news) = ledger.take_pulled(rt) else {
                 break;
             };
-            self.releases.settled(trace);
-            self.notes.put(&LedgerNote::Handed { trace, span })?;
+            self.notes_news(news)?;
         }
         Ok(())
     }
@@ -170,6 +169,10 @@ impl<R: Files<File = File> + Copy> Keeper<R> {
                 moment,
                 spans,
             }),
+            LedgerNews::Pulled { trace, span } => {
+                self.releases.settled(trace);
+                self.notes.put(&LedgerNote::Handed { trace, span })
+            }
             LedgerNews::Released { trace, spans } => {
                 self.releases.released(trace, spans, self.segment)
             }

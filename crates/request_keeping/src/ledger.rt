@@ -18,7 +18,7 @@ const MOST_PULLED: usize = 262_144;
 /// No trace waits in a shard.
 const NONE_WAITS: u64 = u64::MAX;
 
-/// What a shard tells of spans, or the start of requests.
+/// What a shard or the exporter tells of spans, or the start of requests.
 #[derive(Clone, Copy)]
 pub enum LedgerNews {
     /// So many spans of a trace, which came up to this moment, were counted as dropped.
@@ -38,6 +38,11 @@ pub enum LedgerNews {
         lane: u16,
         place: u64,
     },
+    /// The exporter took this span.
+    Pulled {
+        trace: TraceId,
+        span: SpanId,
+    },
 }
 
 /// What a shard told of what waits there.
@@ -54,7 +59,7 @@ pub struct RequestLedger {
     syncs: bool,
     lanes: Vec<Mutex<LaneFile>>,
     news: ArrayQueue<LedgerNews>,
-    pulled: ArrayQueue<(TraceId, SpanId)>,
+    pulled: ArrayQueue<LedgerNews>,
     settled: AtomicU64,
     standings: Vec<StandingCell>,
     /// Bytes in the files of the segment under way.
@@ -164,7 +169,7 @@ impl RequestLedger {
 
     /// The exporter took this span.
     pub fn pulled<R: Wait>(&self, rt: &R, trace: TraceId, span: SpanId) {
-        let mut left = (trace, span);
+        let mut left = LedgerNews::Pulled { trace, span };
         for _ in rt.forever() {
             match self.pulled.push(rt, left) {
                 Ok(()) => return,
@@ -213,7 +218,7 @@ impl RequestLedger {
     }
 
     /// The span that the exporter took first, if any waits.
-    pub(crate) fn take_pulled<R: Wait>(&self, rt: &R) -> Option<(TraceId, SpanId)> {
+    pub(crate) fn take_pulled<R: Wait>(&self, rt: &R) -> Option<LedgerNews> {
         self.pulled.pop(rt)
     }
 
