@@ -30,7 +30,10 @@ impl<
         + Copy
         + Send
         + 'static,
-> Keeping<T> {
+> Keeping<T>
+where
+    T::Dir: Send + 'static,
+{
     /// Opens the folder that the configuration names, reads what an earlier run left, and starts what keeps its files. An
     /// error, which is said: the folder can't be made, read or written, or another process has it.
     pub fn open<E: Write + Drop>(

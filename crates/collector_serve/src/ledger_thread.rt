@@ -31,7 +31,10 @@ impl LedgerThread {
         rt: &T,
         keeper: Keeper<T>,
         charge: Arc<Charge, Global>,
-    ) -> io::Result<Self> {
+    ) -> io::Result<Self>
+    where
+        T::Dir: Send + 'static,
+    {
         let own = *rt;
         let thread = thread::spawn(rt, move || keep(&own, keeper, &charge))?;
         Ok(LedgerThread {

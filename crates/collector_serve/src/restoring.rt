@@ -23,7 +23,7 @@ const SHARES: u16 = 4;
 /// The longest wait for an answer, in seconds.
 const PATIENCE: u64 = 30;
 
-/// The longest head of an answer.
+/// At most so many reads are made for an answer.
 const LONGEST_HEAD: usize = 16_384;
 
 /// Sends what an earlier run left to the collector again. `None`: there was nothing.
@@ -56,7 +56,10 @@ impl Restoring {
         folder: Arc<LedgerFolder<T>, Global>,
         earlier: Earlier,
         charge: Arc<Charge, Global>,
-    ) -> io::Result<Self> {
+    ) -> io::Result<Self>
+    where
+        T::Dir: Send + 'static,
+    {
         let own = *rt;
         let address = own_address(alloc, address)?;
         let sending = Sending {
@@ -135,7 +138,10 @@ fn restore<
         + Send
         + Sync
         + 'static,
->(rt: &T, sending: Sending<T>) {
+>(rt: &T, sending: Sending<T>)
+where
+    T::Dir: Send + 'static,
+{
     let Some(ledger) = sending.charge.board.ledger().ledger() else {
         return;
     };
@@ -166,7 +172,10 @@ fn send_all<
         + Send
         + Sync
         + 'static,
->(rt: &T, sending: &Sending<T>) -> SendEnd {
+>(rt: &T, sending: &Sending<T>) -> SendEnd
+where
+    T::Dir: Send + 'static,
+{
     match sending.earlier.runs() {
         Ok(runs) if runs.len() > 1 => end_of(send_share(rt, sending, None)),
         Ok(_) => send_shares(rt, sending),
@@ -185,7 +194,10 @@ fn send_shares<
         + Send
         + Sync
         + 'static,
->(rt: &T, sending: &Sending<T>) -> SendEnd {
+>(rt: &T, sending: &Sending<T>) -> SendEnd
+where
+    T::Dir: Send + 'static,
+{
     let mut threads = Vec::new(sending.alloc);
     let mut end = SendEnd::All;
     for share in 0..SHARES {
@@ -215,7 +227,10 @@ fn share_thread<
         + Send
         + Sync
         + 'static,
->(rt: &T, sending: &Sending<T>, share: u16) -> io::Result<JoinHandle<SendEnd>> {
+>(rt: &T, sending: &Sending<T>, share: u16) -> io::Result<JoinHandle<SendEnd>>
+where
+    T::Dir: Send + 'static,
+{
     let own = *rt;
     let sending = sending.try_clone()?;
     let thread = thread::spawn(rt, move || end_of(send_share(&own, &sending, Some(share))))?;
@@ -366,7 +381,7 @@ fn request_text(alloc: Global, encoding: Encoding, body: &[u8]) -> Result<Vec<u8
 fn answered<S: Read>(alloc: Global, stream: &mut S) -> io::Result<u16> {
     let mut bytes = Vec::new(alloc);
     let mut piece = [0; 1024];
-    while bytes.len() < LONGEST_HEAD {
+    for _ in 0..LONGEST_HEAD {
         let count = stream.read(&mut piece)?;
         if count == 0 {
             break;
