@@ -69,9 +69,10 @@ def written(luck, request):
 
 
 def shared_traces(sender, luck):
-    """A request of 1 to 20 spans over sixty traces: some of one life, and some of all."""
-    traces = [luck.randrange(1, 61) for _ in range(luck.randrange(1, 21))]
-    return [(it if it <= 15 else 1000 * (life_of(sender.number) + 1) + it, False) for it in traces]
+    """A request of 1 to 20 spans over traces that all connections send: some of all lives, some of one, and some of a fifth of a second."""
+    life, moment = life_of(sender.number) + 1, int(time.monotonic() * 5)
+    kinds = [lambda at: at, lambda at: 1000 * life + at, lambda at: 10**12 * life + 100 * moment + at]
+    return [(luck.choice(kinds)(luck.randrange(1, 16)), False) for _ in range(luck.randrange(1, 21))]
 
 
 class Sender(threading.Thread):
@@ -126,24 +127,33 @@ def answered_by(senders):
 
 
 def lines_at(path):
-    """Each whole line of a file as its value, with where it ends; and how many lines are cut."""
+    """Each whole line of a file as its bytes, with where it ends; and how many lines are cut."""
     found, cut, at = [], 0, 0
     if not os.path.exists(path):
         return found, cut
     with open(path, "rb") as file:
         for line in file:
             at += len(line)
-            try:
-                found.append((at, json.loads(line)))
-            except ValueError:
+            if is_whole(line):
+                found.append((at, line))
+            else:
                 cut += 1
     return found, cut
+
+
+def is_whole(line):
+    """Whether a line is a value in JSON."""
+    try:
+        json.loads(line)
+        return True
+    except ValueError:
+        return False
 
 
 def spans_at(lines):
     """Each span of such lines with where its line ends, and its resource."""
     for at, line in lines:
-        for resource in line["resourceSpans"]:
+        for resource in json.loads(line)["resourceSpans"]:
             for scope in resource["scopeSpans"]:
                 want("the scope of a line", scope["scope"], {"name": "s"})
                 for span in scope["spans"]:

@@ -7,7 +7,6 @@ serve.py makes the same checks in small, over a few kills and a share of the pla
 
 import collections
 import concurrent.futures
-import json
 import os
 import random
 import shutil
@@ -52,7 +51,7 @@ def nothing_answered_is_lost(start):
         lives.sends(collector)
         until("what was pending is taken again", lambda: events_of(collector, "ledger_restored"))
         (restored,) = events_of(collector, "ledger_restored")
-        want("whether as many spans are taken again as are pending, or more", int(restored["spans"]) >= len(pending) > 0, True)
+        want(f"whether {restored['spans']} spans, as many as are pending or more, are taken again", int(restored["spans"]) >= len(pending) > 0, True)
         numbers = lives.close(collector)
         sent_now = sum(len(it.sent) for it in lives.senders if life_of(it.number) == len(lives.lives))
         want("whether what is received is what is sent and taken again", numbers[0] <= sent_now + int(restored["spans"]), True)
@@ -66,6 +65,26 @@ def is_over(lives):
     lines = len(lives.printed())
     want("the report of a life behind the close", lives.begin(SHORT).close()[1], [0] * 9)
     want("the lines behind it", len(lives.printed()), lines)
+
+
+def closed_before_all_is_taken(start):
+    """Collectors that are closed as soon as they listen, while they take again what a killed one left: what they haven't taken is pending for the next. At the end each
+    span is handed over, and each once, since none was killed with anything under way."""
+    with tempfile.TemporaryDirectory() as folder:
+        lives = Lives(start, folder, TAKEN + LANES + ALL)
+        collector, began = lives.begin(LONG), time.monotonic()
+        for it in lives.sends(collector, requests=100, pause=0):
+            it.join()
+        lives.kill(collector, [(began, 0)], True)
+        want("whether something was handed over before the kill", lives.position(), 0)
+        for _ in range(3):
+            lives.close(lives.begin(LONG))
+        collector = lives.begin(LONG)
+        lives.close(collector)
+        found = compared(lives, lives.printed())
+        told("closed_before_all_is_taken", lives, found)
+        want("the most times that a span is handed over", max(map(len, found.values())), 1)
+        is_over(lives)
 
 
 def traces_at_once(sender, luck):
@@ -310,7 +329,7 @@ class Waiting:
             collector.stop()
             self.start.started.remove(collector)
         want("what isn't handed over", numbers[2:], [0] * 7)
-        return list(spans_at(enumerate(map(json.loads, lines)))), is_cut
+        return list(spans_at(enumerate(lines))), is_cut
 
     def are_right(self, what, spans, wanted):
         """Whether spans are as they were sent, and these are among them."""
@@ -419,11 +438,10 @@ def over_a_backend(start):
         lives.sends(collector)
         until("what was pending is taken again", lambda: events_of(collector, "ledger_restored"))
         want("what isn't handed over", lives.close(collector)[2:], [0] * 7)
-        lines = [(at + 1, json.loads(body)) for at, body in enumerate(backend.taken)]
-        told("over_a_backend", lives, compared(lives, lines))
+        told("over_a_backend", lives, compared(lives, list(enumerate(backend.taken, 1))))
 
 
-CHECKS = [nothing_answered_is_lost, errors_and_late_spans, segments_go, full_ledger_answers_busy, full_disk, cut_at_every_byte, one_byte_turned]
+CHECKS = [nothing_answered_is_lost, closed_before_all_is_taken, errors_and_late_spans, segments_go, full_ledger_answers_busy, full_disk, cut_at_every_byte, one_byte_turned]
 CHECKS += [no_ledger_no_folder, ledger_cannot_be_made, over_a_backend]
 
 
