@@ -69,9 +69,9 @@ def written(luck, request):
 
 
 def shared_traces(sender, luck):
-    """A request of 1 to 20 spans over traces that all connections send: some of all lives, some of one, and some of a fifth of a second."""
+    """A request of 1 to 20 spans over traces that all connections send: some of five lives, some of one, and some of a fifth of a second."""
     life, moment = life_of(sender.number) + 1, int(time.monotonic() * 5)
-    kinds = [lambda at: at, lambda at: 1000 * life + at, lambda at: 10**12 * life + 100 * moment + at]
+    kinds = [lambda at: 10**9 * (life // 5) + at, lambda at: 1000 * life + at, lambda at: 10**12 * life + 100 * moment + at]
     return [(luck.choice(kinds)(luck.randrange(1, 16)), False) for _ in range(luck.randrange(1, 21))]
 
 
@@ -235,8 +235,8 @@ def events_of(collector, name):
 
 def compared(lives, lines, policies_keep_all=True):
     """What must hold of the lines at the end: each span is as it was sent, each that was answered 200 is there, and those of one connection and trace stand in
-    their order, by where they are first. One that is there twice was handed over in the half second before a kill, or was pending when a life was killed
-    that hadn't taken all again. Gives where each span is: by its connection and place, where the lines end that have it."""
+    their order, by where they are first; and what is there twice may be (`may_come_again`). Gives where each span is: by its connection and place, where
+    the lines end that have it."""
     senders, found, last = {it.number: it for it in lives.senders}, collections.defaultdict(list), {}
     for at, span, resource in spans_at(lines):
         connection, place = of_id(span["spanId"])
@@ -251,11 +251,34 @@ def compared(lives, lines, policies_keep_all=True):
     if policies_keep_all:
         missing = sorted(answered_by(lives.senders) - set(found))
         want(f"how many spans are missing that were answered 200, such as {missing[:3]}", len(missing), 0)
-    for (connection, place), times in found.items():
-        for at in times[:-1]:
-            if not may_come_again(lives, connection, at):
-                raise Failure(f"span {place} of {connection} was handed over at {times}, of which {at} is {behind_its_kill(lives, at)}")
+    wants_reasons(lives, senders, found)
     return found
+
+
+def wants_reasons(lives, senders, found):
+    """Wants that each span that was handed over, and then again, may have come again."""
+    of_trace = collections.defaultdict(list)
+    for connection, place in found:
+        of_trace[senders[connection].sent[place][0]].append((connection, place))
+    known = {}
+    for (connection, place), times in found.items():
+        trace = senders[connection].sent[place][0]
+        for at in times[:-1]:
+            life = life_at(lives, at)
+            if (trace, life) not in known:
+                known[trace, life] = life < len(lives.lives) and is_in_part(lives, life, [(key, found[key]) for key in of_trace[trace]])
+            if not known[trace, life] and not may_come_again(lives, connection, at):
+                raise Failure(f"span {place} of {connection} was handed over at {times}, of which {at} is {behind_its_kill(lives, at)}")
+
+
+def is_in_part(lives, life, spans):
+    """Whether of the spans of a trace some hadn't been handed over in a life when it was killed, or just then: the trace comes again whole."""
+    start = lives.lives[life - 1].end if life else 0
+    before = lives.lives[life].before
+    for (connection, _), times in spans:
+        if life_of(connection) <= life and times[-1] > before and not any(start < at <= before for at in times):
+            return True
+    return False
 
 
 def life_at(lives, at):
@@ -270,7 +293,7 @@ def behind_its_kill(lives, at):
 
 
 def may_come_again(lives, connection, at):
-    """Whether what was handed over there may come again."""
+    """Whether what was handed over there may come again by itself: just before a kill, or behind one of a life that hadn't taken all again."""
     life = life_at(lives, at)
     is_late = life < len(lives.lives) and lives.lives[life].before < at
     return is_late or any(not it.is_restored for it in lives.lives[life_of(connection) + 1 : life + 1])

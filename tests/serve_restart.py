@@ -17,7 +17,7 @@ import threading
 import time
 
 from collector import ALL, ERROR_SPAN, PATIENCE, Failure, body_of, comes_to, free_port, post, run_checks, tried, until, want
-from restarts import LANES, LONG, SHORT, TAKEN, Lives, answered_by, compared, events_of, life_of, of_id, records_of, spans_at, spans_in, told
+from restarts import LANES, LONG, SHORT, TAKEN, Lives, answered_by, compared, events_of, life_at, life_of, of_id, records_of, spans_at, spans_in, told
 from serve_export import WAITS, Backend
 from serve_output import SmallDisk
 from serve_record import files_of
@@ -80,6 +80,8 @@ def closed_before_all_is_taken(start):
         for _ in range(3):
             lives.close(lives.begin(LONG))
         collector = lives.begin(LONG)
+        if answered_by(lives.senders) - {of_id(span["spanId"]) for _, span, _ in spans_at(lives.printed())}:
+            until("what was pending is taken again", lambda: events_of(collector, "ledger_restored"))
         lives.close(collector)
         found = compared(lives, lives.printed())
         told("closed_before_all_is_taken", lives, found)
@@ -103,8 +105,8 @@ def traces_at_once(sender, luck):
 
 def errors_and_late_spans(start):
     """Traces with errors, late spans, remembered decisions and a limiter, over kills. Each span with an error that was answered 200 is in the output; so is each span
-    of a trace with an error in its first request, but for one that was under way when the collector was killed, behind others of its trace that had been
-    handed over: that one is decided anew, by what is left."""
+    of a trace with an error in its first request, but for one whose trace was handed over without it by a life that was killed before it had taken all
+    again: that one is decided anew, without the others."""
     policies = 'policies = [{ name = "errors", type = "status_code", status_code = { status_codes = ["ERROR"] } }, '
     policies += '{ name = "some", type = "rate_limiting", rate_limiting = { spans_per_second = 100 } }]\n'
     caches = "[decision_cache]\nsampled_cache_size = 10000\nnon_sampled_cache_size = 10000\n"
@@ -115,6 +117,7 @@ def errors_and_late_spans(start):
             lives.killed(lives.begin(waits, tables=caches), 1.5 if EXTENT is IN_SMALL else 2.5)
         collector = lives.begin(SHORT, tables=caches)
         lives.sends(collector)
+        until("what was pending is taken again", lambda: events_of(collector, "ledger_restored"))
         time.sleep(1)
         # (That the report adds up is seen where the collector is closed.)
         lives.close(collector)
@@ -126,34 +129,28 @@ def errors_and_late_spans(start):
 
 def missing_errors(lives, sender, found):
     """The spans that a sender was answered 200, of a trace with an error in its first request, that aren't there. Each may be missing."""
-    first_of, handed = {}, {}
+    first_of, errors, handed = {}, set(), collections.defaultdict(set)
     for first, count, _ in sender.answered:
         for place in range(first, first + count):
-            first_of.setdefault(sender.sent[place][0], first)
-    for (connection, place), times in found.items():
-        if connection == sender.number:
-            handed.setdefault(sender.sent[place][0], times[0])
-    last_kill = lives.lives[-1].end
-    missing = []
-    for first, count, moment in sender.answered:
-        for place in range(first, first + count):
             trace, is_error = sender.sent[place]
-            whole = trace % 3 == 0 or (trace % 3 == 1 and any(sender.sent[it] == (trace, True) for it in range(first_of[trace], first_of[trace] + 6) if it < len(sender.sent)))
-            if not whole or (sender.number, place) in found:
-                continue
-            missing.append(place)
-            want(f"whether the missing span {place} of {sender.number} has no error", is_error, False)
-            want(f"whether others of the trace of span {place} of {sender.number} were handed over before a kill", handed.get(trace, last_kill + 1) <= last_kill, True)
-            under_way = moment > lives.lives[life_of(sender.number)].moment - 1.5
-            want(f"whether span {place} of {sender.number} was under way at its kill", under_way, True)
+            if first_of.setdefault(trace, first) == first and is_error:
+                errors.add(trace)
+            for at in found.get((sender.number, place), []):
+                handed[trace].add(life_at(lives, at))
+    missing = [it for _, it in sorted(answered_by([sender])) if sender.sent[it][0] in errors and (sender.number, it) not in found]
+    for place in missing:
+        trace, is_error = sender.sent[place]
+        want(f"whether the missing span {place} of {sender.number} has an error", is_error, False)
+        begun = {it for it in range(life_of(sender.number) + 1, len(lives.lives)) if not lives.lives[it].is_restored}
+        want(f"whether the trace of the missing span {place} of {sender.number} was handed over in a life that hadn't taken all again", bool(handed[trace] & begun), True)
     return missing
 
 
-def names_of(ledger, kind="requests"):
-    """The files of a kind, each as its numbers: a segment, and a lane."""
+def segments_of(ledger):
+    """The segments of which there are requests, each as the numbers of its run and its own, the oldest first."""
     if not os.path.exists(ledger):
         return []
-    return sorted(tuple(map(int, it.split(".")[1:])) for it in os.listdir(ledger) if it.startswith(f"{kind}."))
+    return sorted({tuple(map(int, it.split(".")[1:3])) for it in os.listdir(ledger) if it.startswith("requests.")})
 
 
 def bytes_in(folder):
@@ -174,9 +171,9 @@ def segments_go(start):
         lives = Lives(start, folder, TAKEN + "lanes = 2\n" + SHORT + ALL)
         collector, began, sizes = lives.begin(""), time.monotonic(), []
         lives.sends(collector, 2)
-        until("a file of requests", lambda: names_of(lives.ledger))
-        first = names_of(lives.ledger)[0][0]
-        while time.monotonic() < began + EXTENT.seconds or (names_of(lives.ledger) or [(first,)])[0][0] == first:
+        until("a file of requests", lambda: segments_of(lives.ledger))
+        first = segments_of(lives.ledger)[0]
+        while time.monotonic() < began + EXTENT.seconds or first in segments_of(lives.ledger):
             sizes.append(bytes_in(lives.ledger))
             if time.monotonic() > began + EXTENT.seconds + PATIENCE:
                 raise Failure(f"the first segment is still there: {sorted(os.listdir(lives.ledger))}")
@@ -186,7 +183,7 @@ def segments_go(start):
             want(f"whether the greatest sizes {max(sizes[:half])} and {max(sizes[half:])} are alike", max(sizes[half:]) < 1.5 * max(sizes[:half]), True)
             print(f"segments_go: {sent} bytes were sent, and the folder had {max(sizes)} at most", flush=True)
         want("what isn't handed over", lives.close(collector)[2:], [0] * 7)
-        want("the files of requests behind the close", names_of(lives.ledger), [])
+        want("the segments behind the close", segments_of(lives.ledger), [])
         compared(lives, lives.printed())
 
 
@@ -199,16 +196,16 @@ def refuses(collector, lives, refusals=20, **more):
 
 
 def full_ledger_answers_busy(start):
-    """Where the ledger has as much as it may have, requests are answered 503, and that is said; what was answered 200 is handed over, also where the collector
-    is killed then and begun again with no more room."""
+    """Where the ledger has as much as it may have, but for a mebibyte, requests are answered 503, and that is said; what was answered 200 is handed over, also where
+    the collector is killed then and begun again."""
     with tempfile.TemporaryDirectory() as folder:
         lives = Lives(start, folder, TAKEN + "lanes = 2\n" + ALL)
-        collector = lives.begin(LONG, "max_mib = 1\n")
+        collector = lives.begin(LONG, "max_mib = 2\n")
         refuses(collector, lives, pause=0.001)
-        want("whether it has about a mebibyte", 900_000 < bytes_in(lives.ledger) < 1_200_000, True)
+        want(f"whether {bytes_in(lives.ledger)} bytes are one to two mebibytes", 1 << 20 <= bytes_in(lives.ledger) <= 2 << 20, True)
         until("that it is full is said", lambda: events_of(collector, "ledger_full"))
         lives.kill(collector, [(time.monotonic(), 0)], True)
-        collector = lives.begin(LONG, "max_mib = 1\n")
+        collector = lives.begin(LONG, "max_mib = 4\n")
         until("what was pending is taken again", lambda: events_of(collector, "ledger_restored"))
         want("the spans that are taken again", int(events_of(collector, "ledger_restored")[0]["spans"]), len(answered_by(lives.senders)))
         numbers = lives.close(collector)
@@ -219,12 +216,17 @@ def full_ledger_answers_busy(start):
 
 
 def has_room_again(lives):
-    """A ledger that was full has room once its segments go."""
-    collector = lives.begin("decision_wait_ms = 3000\ntick_ms = 50\n", "max_mib = 1\n")
+    """A ledger that was full has room once its segments go; and what is left behind a kill is taken again with no more room, as segments go."""
+    waits = "decision_wait_ms = 3000\ntick_ms = 50\n"
+    collector = lives.begin(waits, "max_mib = 2\n")
     refuses(collector, lives, pause=0.001)
     until("that there is room is said", lambda: events_of(collector, "ledger_has_room"))
     (sender,) = lives.sends(collector, 1)
     until("requests are taken again", lambda: sender.answered or sender.problem)
+    refuses(collector, lives, pause=0.001)
+    lives.kill(collector, [(time.monotonic(), lives.position())], True)
+    collector = lives.begin(waits, "max_mib = 2\n")
+    until("what was pending is taken again", lambda: events_of(collector, "ledger_restored"))
     want("what isn't handed over", lives.close(collector)[2:], [0] * 7)
     compared(lives, lives.printed())
 
