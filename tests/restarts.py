@@ -15,7 +15,7 @@ import struct
 import threading
 import time
 
-from collector import Client, Failure, post, want
+from collector import Client, Failure, post, until, want
 from protobuf_body import request_of
 from serve_protobuf import post_in
 
@@ -171,12 +171,21 @@ class Lives:
         self.start, self.settings, self.makes = start, settings, makes
         self.ledger, self.output = os.path.join(folder, "ledger"), os.path.join(folder, "spans.jsonl")
         self.position = lambda: os.path.getsize(self.output) if os.path.exists(self.output) else 0
-        self.lives, self.senders = [], []
+        self.lives, self.senders, self.before = [], [], set()
 
     def begin(self, settings, ledger="", tables=""):
         """Starts a collector with more settings, more of them for its ledger, and other tables."""
+        self.before = runs_of(self.ledger)
         top = f'output = "{self.output}"\nlog = "json"\n' if "[export]" not in tables else 'log = "json"\n'
         return self.start(top + self.settings + settings + f'[ledger]\npath = "{self.ledger}"\n' + ledger + tables)
+
+    def restored(self, collector):
+        """Waits until it has taken again what was pending. Gives how many spans that were, as it said; nothing where nothing was."""
+        until("what was pending is taken again", lambda: not self.before & runs_of(self.ledger))
+        if not self.before:
+            return 0
+        time.sleep(1)  # (it is looked twice a second at what is to be said)
+        return sum(int(it["spans"]) for it in events_of(collector, "ledger_restored"))
 
     def sends(self, collector, clients=4, **more):
         """Clients that send from now on."""
@@ -226,6 +235,12 @@ class Lives:
         lines, cut = lines_at(self.output)
         want(f"whether {cut} cut lines are one a kill at most", cut <= len(self.lives), True)
         return lines
+
+
+def runs_of(ledger):
+    """The numbers of the runs of which a ledger has files."""
+    names = os.listdir(ledger) if os.path.exists(ledger) else []
+    return {int(it.split(".")[1]) for it in names if "." in it}
 
 
 def events_of(collector, name):

@@ -49,12 +49,11 @@ def nothing_answered_is_lost(start):
         pending = answered_by(lives.senders) - {of_id(span["spanId"]) for _, span, _ in spans_at(lives.printed())}
         collector = lives.begin(SHORT)
         lives.sends(collector)
-        until("what was pending is taken again", lambda: events_of(collector, "ledger_restored"))
-        (restored,) = events_of(collector, "ledger_restored")
-        want(f"whether {restored['spans']} spans, as many as are pending or more, are taken again", int(restored["spans"]) >= len(pending) > 0, True)
+        restored = lives.restored(collector)
+        want(f"whether {restored} spans, as many as are pending or more, are taken again", restored >= len(pending) > 0, True)
         numbers = lives.close(collector)
         sent_now = sum(len(it.sent) for it in lives.senders if life_of(it.number) == len(lives.lives))
-        want("whether what is received is what is sent and taken again", numbers[0] <= sent_now + int(restored["spans"]), True)
+        want("whether what is received is what is sent and taken again", numbers[0] <= sent_now + restored, True)
         want("what isn't handed over", numbers[2:], [0] * 7)
         told("nothing_answered_is_lost", lives, compared(lives, lives.printed()))
         is_over(lives)
@@ -80,8 +79,7 @@ def closed_before_all_is_taken(start):
         for _ in range(3):
             lives.close(lives.begin(LONG))
         collector = lives.begin(LONG)
-        if answered_by(lives.senders) - {of_id(span["spanId"]) for _, span, _ in spans_at(lives.printed())}:
-            until("what was pending is taken again", lambda: events_of(collector, "ledger_restored"))
+        lives.restored(collector)
         lives.close(collector)
         found = compared(lives, lives.printed())
         told("closed_before_all_is_taken", lives, found)
@@ -117,7 +115,7 @@ def errors_and_late_spans(start):
             lives.killed(lives.begin(waits, tables=caches), 1.5 if EXTENT is IN_SMALL else 2.5)
         collector = lives.begin(SHORT, tables=caches)
         lives.sends(collector)
-        until("what was pending is taken again", lambda: events_of(collector, "ledger_restored"))
+        lives.restored(collector)
         time.sleep(1)
         # (That the report adds up is seen where the collector is closed.)
         lives.close(collector)
@@ -187,12 +185,16 @@ def segments_go(start):
         compared(lives, lives.printed())
 
 
-def refuses(collector, lives, refusals=20, **more):
-    """Sends by one client until it was refused so often. Gives the client."""
-    (sender,) = lives.sends(collector, 1, **more)
-    until("requests are refused", lambda: sender.refused >= refusals or sender.problem)
-    lives.joined()
-    return sender
+def refuses(collector, lives, refusals=20):
+    """Sends by one client after the other until requests were refused so often. (A connection ends where a request can't be kept.)"""
+    refused, end = 0, time.monotonic() + PATIENCE
+    while refused < refusals and time.monotonic() < end:
+        (sender,) = lives.sends(collector, 1, pause=0.001)
+        while sender.is_alive() and refused + sender.refused < refusals and time.monotonic() < end:
+            time.sleep(0.01)
+        lives.joined()
+        refused += sender.refused
+    want(f"whether {refused} requests were refused, {refusals} at least", refused >= refusals, True)
 
 
 def full_ledger_answers_busy(start):
@@ -201,13 +203,12 @@ def full_ledger_answers_busy(start):
     with tempfile.TemporaryDirectory() as folder:
         lives = Lives(start, folder, TAKEN + "lanes = 2\n" + ALL)
         collector = lives.begin(LONG, "max_mib = 2\n")
-        refuses(collector, lives, pause=0.001)
+        refuses(collector, lives)
         want(f"whether {bytes_in(lives.ledger)} bytes are one to two mebibytes", 1 << 20 <= bytes_in(lives.ledger) <= 2 << 20, True)
         until("that it is full is said", lambda: events_of(collector, "ledger_full"))
         lives.kill(collector, [(time.monotonic(), 0)], True)
         collector = lives.begin(LONG, "max_mib = 4\n")
-        until("what was pending is taken again", lambda: events_of(collector, "ledger_restored"))
-        want("the spans that are taken again", int(events_of(collector, "ledger_restored")[0]["spans"]), len(answered_by(lives.senders)))
+        want("the spans that are taken again", lives.restored(collector), len(answered_by(lives.senders)))
         numbers = lives.close(collector)
         want("the report", numbers, [len(answered_by(lives.senders))] * 2 + [0] * 7)
         compared(lives, lives.printed())
@@ -219,11 +220,11 @@ def has_room_again(lives):
     """A ledger that was full has room once its segments go; and what is left behind a kill is taken again with no more room, as segments go."""
     waits = "decision_wait_ms = 3000\ntick_ms = 50\n"
     collector = lives.begin(waits, "max_mib = 2\n")
-    refuses(collector, lives, pause=0.001)
+    refuses(collector, lives)
     until("that there is room is said", lambda: events_of(collector, "ledger_has_room"))
     (sender,) = lives.sends(collector, 1)
     until("requests are taken again", lambda: sender.answered or sender.problem)
-    refuses(collector, lives, pause=0.001)
+    refuses(collector, lives)
     lives.kill(collector, [(time.monotonic(), lives.position())], True)
     collector = lives.begin(waits, "max_mib = 2\n")
     until("what was pending is taken again", lambda: events_of(collector, "ledger_restored"))
@@ -248,7 +249,7 @@ def full_disk(start):
         lives.ledger = os.path.join(disk, "ledger")
         collector = lives.begin(LONG)
         filler = fill(disk, 100_000)
-        refuses(collector, lives, 10, pause=0.001)
+        refuses(collector, lives, 10)
         until("that it fails is said", lambda: events_of(collector, "ledger_fails"))
         os.remove(filler)
         until("that it is back is said", lambda: events_of(collector, "ledger_is_back"))
@@ -256,11 +257,11 @@ def full_disk(start):
         until("requests are taken again", lambda: len(sender.answered) > 20 or sender.problem)
         sender.join()
         fill(disk, 60_000)
-        refuses(collector, lives, 10, pause=0.001)
+        refuses(collector, lives, 10)
         lives.kill(collector, [(time.monotonic(), 0)], True)
         subprocess.run(["mount", "-o", "remount,size=16m", disk], check=True)
         collector = lives.begin(LONG)
-        until("what was pending is taken again", lambda: events_of(collector, "ledger_restored"))
+        lives.restored(collector)
         want("what isn't handed over", lives.close(collector)[2:], [0] * 7)
         compared(lives, lives.printed())
 
@@ -325,7 +326,7 @@ class Waiting:
                 want(f"whether {why} is a named refusal", '"cannot_write"' in str(why) and "status 1" in str(why), True)
                 return None, True
             if wanted:
-                until("what was pending is taken again", lambda: events_of(collector, "ledger_restored"))
+                lives.restored(collector)
             lines, numbers = collector.close()
             is_cut = bool(events_of(collector, "ledger_cut"))
             collector.stop()
@@ -438,7 +439,7 @@ def over_a_backend(start):
             lives.killed(lives.begin(SHORT, SYNCS[number % 3], tables), seconds)
         collector = lives.begin(SHORT, tables=tables)
         lives.sends(collector)
-        until("what was pending is taken again", lambda: events_of(collector, "ledger_restored"))
+        lives.restored(collector)
         want("what isn't handed over", lives.close(collector)[2:], [0] * 7)
         told("over_a_backend", lives, compared(lives, list(enumerate(backend.taken, 1))))
 
