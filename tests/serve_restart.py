@@ -326,7 +326,7 @@ class Waiting:
                 want(f"whether {why} is a named refusal", '"cannot_write"' in str(why) and "status 1" in str(why), True)
                 return None, True
             if wanted:
-                lives.restored(collector)
+                until("what was pending is taken again", lambda: events_of(collector, "ledger_restored"))
             lines, numbers = collector.close()
             is_cut = bool(events_of(collector, "ledger_cut"))
             collector.stop()
@@ -412,12 +412,14 @@ def no_ledger_no_folder(start):
 
 
 def ledger_cannot_be_made(start):
-    """A folder that can't be made, or is a file, is named, and the program ends at once."""
+    """A folder that can't be made, is a file, or is another collector's is named, and the program ends at once."""
     with tempfile.TemporaryDirectory() as folder:
         config, file_there = os.path.join(folder, "config.toml"), os.path.join(folder, "file")
         with open(file_there, "w", encoding="utf-8") as file:
             file.write("x")
-        for path in (os.path.join(file_there, "ledger"), file_there):
+        shared = os.path.join(folder, "shared")
+        start(ALL + f'[ledger]\npath = "{shared}"\n')
+        for path in (os.path.join(file_there, "ledger"), file_there, shared):
             with open(config, "w", encoding="utf-8") as file:
                 file.write(f'listen = "127.0.0.1:{free_port()}"\n' + ALL + f'[ledger]\npath = "{path}"\n')
             done = subprocess.run([start.program, "serve", config], stdin=subprocess.DEVNULL, capture_output=True, timeout=PATIENCE, check=False)
