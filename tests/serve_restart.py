@@ -19,6 +19,7 @@ import time
 from collector import ALL, ERROR_SPAN, PATIENCE, Failure, body_of, comes_to, free_port, post, run_checks, tried, until, want
 from restarts import LANES, LONG, SHORT, TAKEN, Lives, answered_by, compared, events_of, life_at, life_of, of_id, records_of, spans_at, spans_in, told
 from serve_export import WAITS, Backend
+from serve_faults import library_of
 from serve_output import SmallDisk
 from serve_record import files_of
 
@@ -401,6 +402,53 @@ def one_byte_turned(start):
         print(f"one_byte_turned: {len(refused)} bytes, {sum(refused)} of them refused", flush=True)
 
 
+def syncs_as_it_is_told(start):
+    """By `sync` no file is synced, or some in each interval, or each request's before it is answered. A request whose sync fails isn't answered 200; once syncs succeed
+    again, others are."""
+    with tempfile.TemporaryDirectory() as folder:
+        library = library_of("counted_syncs", folder)
+        for number, sync in enumerate(['sync = "none"\n', 'sync = "interval"\nsync_interval_ms = 100\n', 'sync = "request"\n']):
+            path = os.path.join(folder, f"syncs{number}")
+            settings = ALL + f'[ledger]\npath = "{folder}/ledger{number}"\n' + sync
+            collector, counts = start(settings, surroundings={"LD_PRELOAD": library, "SYNCS": path}), []
+            for _ in range(20):
+                want("the answer", collector.ask(post(body_of([ERROR_SPAN])))[0], 200)
+                counts.append(bytes_at(path))
+            if number == 1:
+                until("twenty syncs", lambda at=path: bytes_at(at) >= 20)
+            if number == 2:
+                want("whether each request was synced", all(count > at for at, count in enumerate(counts)), True)
+                fails_where_syncs_fail(collector, path + ".fails")
+            want("whether any was synced", bytes_at(path) > 0, number > 0)
+            collector.close()
+
+
+def fails_where_syncs_fail(collector, fails):
+    """While syncs fail no request is answered 200: its connection ends, or it is answered 503."""
+    with open(fails, "w", encoding="utf-8"):
+        pass
+    for _ in range(5):
+        try:
+            want("the answer where a sync fails", collector.ask(post(body_of([ERROR_SPAN])))[0], 503)
+        except (Failure, OSError) as why:
+            want(f"whether {why} is an end of the connection", "ended behind b''" in str(why) or isinstance(why, OSError), True)
+    os.remove(fails)
+    until("requests are answered again", lambda: is_taken(collector))
+
+
+def is_taken(collector):
+    """Whether a request is answered 200."""
+    try:
+        return collector.ask(post(body_of([ERROR_SPAN])))[0] == 200
+    except (Failure, OSError):
+        return False
+
+
+def bytes_at(path):
+    """The bytes of a file, or 0 where there is none."""
+    return os.path.getsize(path) if os.path.exists(path) else 0
+
+
 def no_ledger_no_folder(start):
     """Without a ledger, and with an empty path, no file is open and none is made."""
     for table in ("", '[ledger]\npath = ""\n'):
@@ -447,7 +495,7 @@ def over_a_backend(start):
 
 
 CHECKS = [nothing_answered_is_lost, closed_before_all_is_taken, errors_and_late_spans, segments_go, full_ledger_answers_busy, full_disk, cut_at_every_byte, one_byte_turned]
-CHECKS += [no_ledger_no_folder, ledger_cannot_be_made, over_a_backend]
+CHECKS += [syncs_as_it_is_told, no_ledger_no_folder, ledger_cannot_be_made, over_a_backend]
 
 
 def main():
