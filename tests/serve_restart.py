@@ -199,16 +199,16 @@ def refuses(collector, lives, refusals=20):
 
 
 def full_ledger_answers_busy(start):
-    """Where the ledger has as much as it may have, but for a mebibyte, requests are answered 503, and that is said; what was answered 200 is handed over, also where
-    the collector is killed then and begun again."""
+    """Where the ledger has as much as it may have, requests are answered 503, and that is said; what was answered 200 is handed over, also where the collector is
+    killed then and begun again."""
     with tempfile.TemporaryDirectory() as folder:
         lives = Lives(start, folder, TAKEN + "lanes = 2\n" + ALL)
-        collector = lives.begin(LONG, "max_mib = 2\n")
+        collector = lives.begin(LONG, "max_mib = 1\n")
         refuses(collector, lives)
-        want(f"whether {bytes_in(lives.ledger)} bytes are one to two mebibytes", 1 << 20 <= bytes_in(lives.ledger) <= 2 << 20, True)
+        want(f"whether {bytes_in(lives.ledger)} bytes are about a mebibyte", 900_000 < bytes_in(lives.ledger) < 1_300_000, True)
         until("that it is full is said", lambda: events_of(collector, "ledger_full"))
         lives.kill(collector, [(time.monotonic(), 0)], True)
-        collector = lives.begin(LONG, "max_mib = 4\n")
+        collector = lives.begin(LONG, "max_mib = 2\n")
         want("the spans that are taken again", lives.restored(collector), len(answered_by(lives.senders)))
         numbers = lives.close(collector)
         want("the report", numbers, [len(answered_by(lives.senders))] * 2 + [0] * 7)
@@ -220,14 +220,14 @@ def full_ledger_answers_busy(start):
 def has_room_again(lives):
     """A ledger that was full has room once its segments go; and what is left behind a kill is taken again with no more room, as segments go."""
     waits = "decision_wait_ms = 3000\ntick_ms = 50\n"
-    collector = lives.begin(waits, "max_mib = 2\n")
+    collector = lives.begin(waits, "max_mib = 1\n")
     refuses(collector, lives)
     until("that there is room is said", lambda: events_of(collector, "ledger_has_room"))
     (sender,) = lives.sends(collector, 1)
     until("requests are taken again", lambda: sender.answered or sender.problem)
     refuses(collector, lives)
     lives.kill(collector, [(time.monotonic(), lives.position())], True)
-    collector = lives.begin(waits, "max_mib = 2\n")
+    collector = lives.begin(waits, "max_mib = 1\n")
     until("what was pending is taken again", lambda: events_of(collector, "ledger_restored"))
     want("what isn't handed over", lives.close(collector)[2:], [0] * 7)
     compared(lives, lives.printed())
