@@ -31,24 +31,24 @@ SYNCS = ['sync = "none"\n', 'sync = "interval"\nsync_interval_ms = 50\n', 'sync 
 
 
 def plan(kills):
-    """Of each life that is to be killed: its waits, when it syncs, and for how long clients send. The first waits for longer than it lives."""
+    """Of each life that is to be killed: its waits, lanes and shards, when it syncs, and for how long clients send. The first waits for longer than it lives."""
     luck = random.Random(kills)
     lives = [(LONG, SYNCS[0], 0.6), (SHORT, SYNCS[1], 0.9), (LONG, SYNCS[2], 0.1), (SHORT, SYNCS[0], 1.2)]
     while len(lives) < kills:
         seconds = luck.uniform(0, 0.2) if luck.random() < 0.25 else luck.uniform(0.2, 1.5)
         lives.append((luck.choice([SHORT, LONG]), luck.choice(SYNCS), seconds))
-    return lives[:kills]
+    return [(f"{waits}lanes = {luck.randrange(1, 5)}\nshards = {luck.randrange(1, 4)}\n", sync, seconds) for waits, sync, seconds in lives[:kills]]
 
 
 def nothing_answered_is_lost(start):
-    """Four clients send requests of each form; the collector is killed, and begun again on the same ledger and the same output, again and again. Each span that was
-    answered 200 is in the output at the end, in order; and then nothing is pending."""
+    """Four clients send requests of each form; the collector is killed, and begun again on the same ledger and the same output, with other waits, lanes and shards,
+    again and again. Each span that was answered 200 is in the output at the end, in order; and then nothing is pending."""
     with tempfile.TemporaryDirectory() as folder:
-        lives = Lives(start, folder, TAKEN + LANES + ALL)
-        for waits, sync, seconds in plan(EXTENT.kills):
-            lives.killed(lives.begin(waits, sync), seconds)
+        lives = Lives(start, folder, TAKEN + ALL)
+        for settings, sync, seconds in plan(EXTENT.kills):
+            lives.killed(lives.begin(settings, sync), seconds)
         pending = answered_by(lives.senders) - {of_id(span["spanId"]) for _, span, _ in spans_at(lives.printed())}
-        collector = lives.begin(SHORT)
+        collector = lives.begin(SHORT + LANES)
         lives.sends(collector)
         restored = lives.restored(collector)
         want(f"whether {restored} spans, as many as are pending or more, are taken again", restored >= len(pending) > 0, True)
@@ -84,6 +84,26 @@ def closed_before_all_is_taken(start):
         lives.close(collector)
         found = compared(lives, lives.printed())
         told("closed_before_all_is_taken", lives, found)
+        want("the most times that a span is handed over", max(map(len, found.values())), 1)
+        is_over(lives)
+
+
+def refused_ones_stay(start):
+    """Requests in protobuf that the next configuration doesn't take: the others are taken again, and these stay until a configuration takes them; each once."""
+    with tempfile.TemporaryDirectory() as folder:
+        lives = Lives(start, folder, LANES + ALL)
+        collector, began = lives.begin(TAKEN + LONG), time.monotonic()
+        for it in lives.sends(collector, requests=20, pause=0):
+            it.join()
+        lives.kill(collector, [(began, 0)], True)
+        collector = lives.begin(TAKEN.replace("accept_protobuf = true\n", "") + LONG)
+        until("that a part is taken again is said", lambda: events_of(collector, "ledger_restored_in_part"))
+        numbers, answered = lives.close(collector), len(answered_by(lives.senders))
+        want("whether a part was received", (0 < numbers[0] < answered, numbers[2:]), (True, [0] * 7))
+        collector = lives.begin(TAKEN + LONG)
+        want("the spans that are taken again", lives.restored(collector), answered - numbers[0])
+        lives.close(collector)
+        found = compared(lives, lives.printed())
         want("the most times that a span is handed over", max(map(len, found.values())), 1)
         is_over(lives)
 
@@ -494,7 +514,7 @@ def over_a_backend(start):
         told("over_a_backend", lives, compared(lives, list(enumerate(backend.taken, 1))))
 
 
-CHECKS = [nothing_answered_is_lost, closed_before_all_is_taken, errors_and_late_spans, segments_go, full_ledger_answers_busy, full_disk, cut_at_every_byte, one_byte_turned]
+CHECKS = [nothing_answered_is_lost, closed_before_all_is_taken, refused_ones_stay, errors_and_late_spans, segments_go, full_ledger_answers_busy, full_disk, cut_at_every_byte, one_byte_turned]
 CHECKS += [syncs_as_it_is_told, no_ledger_no_folder, ledger_cannot_be_made, over_a_backend]
 
 
