@@ -16,10 +16,11 @@ import tempfile
 import threading
 import time
 
-from collector import ALL, ERROR_SPAN, PATIENCE, Failure, body_of, comes_to, free_port, post, run_checks, tried, until, want
+from collector import ALL, ERROR_SPAN, PATIENCE, Failure, body_of, comes_to, free_port, post, run_checks, scrape, tried, until, want
 from restarts import LANES, LONG, SHORT, TAKEN, Lives, answered_by, compared, events_of, life_at, life_of, of_id, records_of, spans_at, spans_in, told
 from serve_export import WAITS, Backend
 from serve_faults import library_of
+from serve_memory import NONE
 from serve_output import SmallDisk
 from serve_record import files_of
 
@@ -73,7 +74,7 @@ def closed_before_all_is_taken(start):
     with tempfile.TemporaryDirectory() as folder:
         lives = Lives(start, folder, TAKEN + LANES + ALL)
         collector, began = lives.begin(LONG), time.monotonic()
-        for it in lives.sends(collector, requests=100, pause=0):
+        for it in lives.sends(collector, requests=40 if EXTENT is IN_SMALL else 200, pause=0):
             it.join()
         lives.kill(collector, [(began, 0)], True)
         want("whether something was handed over before the kill", lives.position(), 0)
@@ -133,7 +134,7 @@ def errors_and_late_spans(start):
         lives = Lives(start, folder, TAKEN + LANES + policies, traces_at_once)
         for number in range(EXTENT.errors):
             waits = LONG if number % 3 == 2 else SHORT
-            lives.killed(lives.begin(waits, tables=caches), 1.5 if EXTENT is IN_SMALL else 2.5)
+            lives.killed(lives.begin(waits, tables=caches), 1 if EXTENT is IN_SMALL else 2.5)
         collector = lives.begin(SHORT, tables=caches)
         lives.sends(collector)
         lives.restored(collector)
@@ -165,6 +166,28 @@ def missing_errors(lives, sender, found):
     return missing
 
 
+def counted_ones_are_over(start):
+    """Spans that were counted, since their traces weren't sampled or left a full buffer, or since they came late or have no valid ids: behind a kill none is received
+    again."""
+    metrics, caches = free_port(), "[decision_cache]\nsampled_cache_size = 10000\nnon_sampled_cache_size = 10000\n"
+    with tempfile.TemporaryDirectory() as folder:
+        lives = Lives(start, folder, TAKEN.replace("200000", "100") + f'metrics = "127.0.0.1:{metrics}"\n' + LANES + SHORT + NONE)
+        collector = lives.begin("", tables=caches)
+        for it in lives.sends(collector, requests=40):
+            it.join()
+        spans = [{"traceId": f"{number:032x}", "spanId": f"{number:016x}"} for number in range(1, 301)]
+        want("the answer", collector.ask(post(body_of(spans + [{"traceId": "x", "spanId": "y"}])))[0], 200)
+        comes_to("the spans that wait", lambda: scrape(metrics)["tsc_spans_waiting"], 0)
+        numbers = scrape(metrics)
+        counted = [numbers[f'tsc_spans_dropped_total{{reason="{it}"}}'] for it in ("invalid_id", "evicted", "not_sampled", "late_not_sampled")]
+        want(f"whether some were counted under each reason: {counted}", (counted[0], min(counted) > 0, sum(counted)), (1, True, len(answered_by(lives.senders)) + 301))
+        time.sleep(0.5)
+        lives.kill(collector, [(time.monotonic(), 0)], True)
+        collector = lives.begin("", tables=caches)
+        lives.restored(collector)
+        want("the report behind the kill", lives.close(collector), [0] * 9)
+
+
 def segments_of(ledger):
     """The segments of which there are requests, each as the numbers of its run and its own, the oldest first."""
     if not os.path.exists(ledger):
@@ -184,12 +207,12 @@ def bytes_in(folder):
 
 
 def segments_go(start):
-    """Under a light load with short waits a segment goes soon after its ten seconds, so that the folder stays as small as it was; and behind the close no
-    requests are left."""
+    """Under a light load with short waits a segment goes soon after its ten seconds, so that the folder stays as small as it was. Then it is killed and
+    begun again, and behind the close no requests are left."""
     with tempfile.TemporaryDirectory() as folder:
-        lives = Lives(start, folder, TAKEN + "lanes = 2\n" + SHORT + ALL)
-        collector, began, sizes = lives.begin(""), time.monotonic(), []
-        lives.sends(collector, 2)
+        lives = Lives(start, folder, TAKEN + "lanes = 2\n" + ALL)
+        collector, began, sizes = lives.begin(SHORT), time.monotonic(), []
+        lives.sends(collector, 2, pause=0.1)
         until("a file of requests", lambda: segments_of(lives.ledger))
         first = segments_of(lives.ledger)[0]
         while time.monotonic() < began + EXTENT.seconds or first in segments_of(lives.ledger):
@@ -201,6 +224,9 @@ def segments_go(start):
             half, sent = len(sizes) // 2, sum(it.bytes for it in lives.senders)
             want(f"whether the greatest sizes {max(sizes[:half])} and {max(sizes[half:])} are alike", max(sizes[half:]) < 1.5 * max(sizes[:half]), True)
             print(f"segments_go: {sent} bytes were sent, and the folder had {max(sizes)} at most", flush=True)
+        lives.killed(collector, 0.6, clients=0)
+        collector = lives.begin(SHORT)
+        lives.restored(collector)
         want("what isn't handed over", lives.close(collector)[2:], [0] * 7)
         want("the segments behind the close", segments_of(lives.ledger), [])
         compared(lives, lives.printed())
@@ -514,7 +540,7 @@ def over_a_backend(start):
         told("over_a_backend", lives, compared(lives, list(enumerate(backend.taken, 1))))
 
 
-CHECKS = [nothing_answered_is_lost, closed_before_all_is_taken, refused_ones_stay, errors_and_late_spans, segments_go, full_ledger_answers_busy, full_disk, cut_at_every_byte, one_byte_turned]
+CHECKS = [nothing_answered_is_lost, closed_before_all_is_taken, refused_ones_stay, counted_ones_are_over, errors_and_late_spans, segments_go, full_ledger_answers_busy, full_disk, cut_at_every_byte, one_byte_turned]
 CHECKS += [syncs_as_it_is_told, no_ledger_no_folder, ledger_cannot_be_made, over_a_backend]
 
 
