@@ -166,6 +166,22 @@ def missing_errors(lives, sender, found):
     return missing
 
 
+def into_short_queues(start):
+    """What is pending is taken again whole where queues are so short that some spans of each request find no room, also with `queue_full = "partial"`: nobody would
+    learn of it."""
+    with tempfile.TemporaryDirectory() as folder:
+        lives = Lives(start, folder, LANES + ALL)
+        collector, began = lives.begin(TAKEN + LONG), time.monotonic()
+        for it in lives.sends(collector, requests=40, pause=0):
+            it.join()
+        lives.kill(collector, [(began, 0)], True)
+        short = TAKEN.replace('queue_full = "retry"\nqueue_capacity = 16384', 'queue_full = "partial"\nqueue_capacity = 2')
+        collector = lives.begin(short + LONG)
+        want("the spans that are taken again", lives.restored(collector), len(answered_by(lives.senders)))
+        want("the report", lives.close(collector), [len(answered_by(lives.senders))] * 2 + [0] * 7)
+        compared(lives, lives.printed())
+
+
 def counted_ones_are_over(start):
     """Spans that were counted, since their traces weren't sampled or left a full buffer, or since they came late or have no valid ids: behind a kill none is received
     again."""
@@ -540,7 +556,7 @@ def over_a_backend(start):
         told("over_a_backend", lives, compared(lives, list(enumerate(backend.taken, 1))))
 
 
-CHECKS = [nothing_answered_is_lost, closed_before_all_is_taken, refused_ones_stay, counted_ones_are_over, errors_and_late_spans, segments_go, full_ledger_answers_busy, full_disk, cut_at_every_byte, one_byte_turned]
+CHECKS = [nothing_answered_is_lost, closed_before_all_is_taken, refused_ones_stay, into_short_queues, counted_ones_are_over, errors_and_late_spans, segments_go, full_ledger_answers_busy, full_disk, cut_at_every_byte, one_byte_turned]
 CHECKS += [syncs_as_it_is_told, no_ledger_no_folder, ledger_cannot_be_made, over_a_backend]
 
 
