@@ -248,7 +248,7 @@ def events_of(collector, name):
     return [it for it in map(json.loads, collector.says().splitlines()) if it["event"] == name]
 
 
-def compared(lives, lines, policies_keep_all=True):
+def compared(lives, lines, policies_keep_all=True, in_order=True):
     """What must hold of the lines at the end: each span is as it was sent, each that was answered 200 is there, and those of one connection and trace stand in
     their order, by where they are first; and what is there twice may be (`may_come_again`). Gives where each span is: by its connection and place, where
     the lines end that have it."""
@@ -259,7 +259,7 @@ def compared(lives, lines, policies_keep_all=True):
         want("a span", span, senders[connection].span(place))
         want("its resource", resource, resource_of(connection))
         if (connection, place) not in found:
-            if place <= last.get((connection, span["traceId"]), -1):
+            if in_order and place <= last.get((connection, span["traceId"]), -1):
                 raise Failure(f"span {place} of {connection} came behind span {last[connection, span['traceId']]} of its trace, in life {life_at(lives, at)}")
             last[connection, span["traceId"]] = place
         found[connection, place].append(at)

@@ -104,7 +104,7 @@ def refused_ones_stay(start):
         collector = lives.begin(TAKEN + LONG)
         want("the spans that are taken again", lives.restored(collector), answered - numbers[0])
         lives.close(collector)
-        found = compared(lives, lives.printed())
+        found = compared(lives, lives.printed(), in_order=False)
         want("the most times that a span is handed over", max(map(len, found.values())), 1)
         is_over(lives)
 
