@@ -182,9 +182,9 @@ class Lives:
     def restored(self, collector):
         """Waits until it has taken again what was pending. Gives how many spans that were, as it said; nothing where nothing was."""
         until("what was pending is taken again", lambda: not self.before & runs_of(self.ledger))
-        if not self.before:
-            return 0
-        time.sleep(1)  # (it is looked twice a second at what is to be said)
+        end = time.monotonic() + 2  # (it is looked twice a second at what is to be said; nothing is said where nothing was pending)
+        while self.before and not events_of(collector, "ledger_restored") and time.monotonic() < end:
+            time.sleep(0.05)
         return sum(int(it["spans"]) for it in events_of(collector, "ledger_restored"))
 
     def sends(self, collector, clients=4, **more):

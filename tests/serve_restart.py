@@ -74,7 +74,7 @@ def closed_before_all_is_taken(start):
     with tempfile.TemporaryDirectory() as folder:
         lives = Lives(start, folder, TAKEN + LANES + ALL)
         collector, began = lives.begin(LONG), time.monotonic()
-        for it in lives.sends(collector, requests=40 if EXTENT is IN_SMALL else 200, pause=0):
+        for it in lives.sends(collector, requests=12 if EXTENT is IN_SMALL else 200, pause=0):
             it.join()
         lives.kill(collector, [(began, 0)], True)
         want("whether something was handed over before the kill", lives.position(), 0)
@@ -94,7 +94,7 @@ def refused_ones_stay(start):
     with tempfile.TemporaryDirectory() as folder:
         lives = Lives(start, folder, LANES + ALL)
         collector, began = lives.begin(TAKEN + LONG), time.monotonic()
-        for it in lives.sends(collector, requests=20, pause=0):
+        for it in lives.sends(collector, requests=10, pause=0):
             it.join()
         lives.kill(collector, [(began, 0)], True)
         collector = lives.begin(TAKEN.replace("accept_protobuf = true\n", "") + LONG)
@@ -172,7 +172,7 @@ def into_short_queues(start):
     with tempfile.TemporaryDirectory() as folder:
         lives = Lives(start, folder, LANES + ALL)
         collector, began = lives.begin(TAKEN + LONG), time.monotonic()
-        for it in lives.sends(collector, requests=40, pause=0):
+        for it in lives.sends(collector, requests=12, pause=0):
             it.join()
         lives.kill(collector, [(began, 0)], True)
         short = TAKEN.replace('queue_full = "retry"\nqueue_capacity = 16384', 'queue_full = "partial"\nqueue_capacity = 2')
@@ -339,7 +339,7 @@ class Waiting:
 
     def __init__(self, start, folder):
         self.start, self.folder, self.lives = start, folder, Lives(start, folder, TAKEN + "lanes = 2\nshards = 2\nsend_batch_size = 8\n" + ALL, own_traces)
-        collector = self.lives.begin("decision_wait_ms = 2000\ntick_ms = 50\n")
+        collector = self.lives.begin("decision_wait_ms = 1200\ntick_ms = 50\n")
         for it in self.lives.sends(collector, requests=12, pause=0):
             it.join()
         handed = answered_by(self.lives.senders)
@@ -350,7 +350,7 @@ class Waiting:
             it.join()
         took = time.monotonic() - began
         self.lives.kill(collector, [(began, 0)], True)
-        want(f"whether all was sent within the wait ({took:.2f} s), and nothing of it was handed over", (took < 1.8, self.printed() == handed), (True, True))
+        want(f"whether all was sent within the wait ({took:.2f} s), and nothing of it was handed over", (took < 1, self.printed() == handed), (True, True))
         self.waiting = answered_by(self.lives.senders) - handed
         self.files = sorted(os.listdir(self.lives.ledger))
         self.paths = [os.path.join(self.lives.ledger, it) for it in self.files]
