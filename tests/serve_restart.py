@@ -288,7 +288,7 @@ def has_room_again(lives):
     (sender,) = lives.sends(collector, 1)
     until("requests are taken again", lambda: sender.answered or sender.problem)
     refuses(collector, lives)
-    lives.kill(collector, [(time.monotonic(), lives.position())], True)
+    lives.killed(collector, 0.6, clients=0)
     collector = lives.begin(waits, "max_mib = 1\n")
     until("what was pending is taken again", lambda: events_of(collector, "ledger_restored"))
     want("what isn't handed over", lives.close(collector)[2:], [0] * 7)
