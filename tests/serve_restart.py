@@ -372,8 +372,8 @@ class Waiting:
         return self.waiting & set().union(*[spans for other, end, spans in ends if other != name or end <= place])
 
     def tried_with(self, name, change, wanted):
-        """Starts on a copy of which a file is changed, waits until it has taken what is pending again if these are, and closes. Gives the spans of the lines, or nothing where it refuses the folder by name; and whether it said that
-        the end of a file wasn't read."""
+        """Starts on a copy of which a file is changed, waits until it has taken again what is pending, if anything is wanted, and closes. Gives the spans of the lines,
+        or nothing where it refuses the folder by name; and whether it said that the end of a file wasn't read."""
         with tempfile.TemporaryDirectory(dir=self.folder) as folder:
             copy = os.path.join(folder, "ledger")
             shutil.copytree(self.lives.ledger, copy)
