@@ -18,6 +18,7 @@ awk -v listen="$listen" '
     }
     /^# decisions = / && listen == "" { $0 = "decisions = \"/var/log/tsc/decisions.jsonl\"" }
     /^# decisions_max_mib = / && listen == "" { $0 = "decisions_max_mib = 256" }
+    /^# path = "PATH"/ && listen == "" { $0 = "# path = \"/var/lib/tsc/ledger\"" }
     /^output_fault = / && listen == "" {
         print
         print ""

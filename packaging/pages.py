@@ -131,7 +131,8 @@ def command_page():
     files = (
         "| File | What it is |\n|---|---|\n| `/etc/tsc/serve.toml` | the configuration of the service `tsc` |\n"
         "| `/var/log/tsc/traces.jsonl` | what the service keeps, and its report at each close |\n"
-        "| `/var/log/tsc/decisions.jsonl` | why each trace was kept or not |"
+        "| `/var/log/tsc/decisions.jsonl` | why each trace was kept or not |\n"
+        "| `/var/lib/tsc/ledger` | requests that outlive a kill, where the configuration has `[ledger]` |"
     )
     return page(
         "TSC", 1, "User commands",
