@@ -17,6 +17,7 @@ use lane_driver::Loads;
 use otlp_types::{Text, TryClone};
 use output_file::ReopenMark;
 use pipeline::Machine;
+use request_keeping::RequestLedger;
 use status_page::status_page;
 use std::alloc::{AllocError, Global};
 use std::fs::File;
@@ -60,7 +61,8 @@ pub fn charge_of(
     }
     if !config.ledger.path.as_str().is_empty() {
         let syncs = config.ledger.sync == LedgerSync::Request;
-        board.keep_ledger(alloc, config.lanes as usize, config.shards, syncs)?;
+        let lanes = config.lanes as usize;
+        board.keep_ledger(RequestLedger::new(alloc, lanes, config.shards, syncs)?);
     }
     let charge = Charge {
         configuration: settings_in_force(alloc, text?.as_str())?,
