@@ -24,9 +24,10 @@ from serve_memory import NONE
 from serve_output import SmallDisk
 from serve_record import files_of
 
-# How much is done: kills, kills with errors, each so many-th place of a cut, places of a turned byte, seconds of light load (or until a segment goes).
-Extent = collections.namedtuple("Extent", "kills errors every turned seconds")
-IN_SMALL, IN_FULL = Extent(4, 2, 257, 12, 0), Extent(200, 20, 1, 1000, 40)
+# How much is done: kills, kills with errors, each so many-th place of a cut, places of a turned byte, seconds of light load (or until a segment goes), each so
+# many-th sync at which the machine crashes.
+Extent = collections.namedtuple("Extent", "kills errors every turned seconds crashes")
+IN_SMALL, IN_FULL = Extent(4, 2, 257, 12, 0, 13), Extent(200, 20, 1, 1000, 40, 1)
 EXTENT = IN_SMALL
 SYNCS = ['sync = "none"\n', 'sync = "interval"\nsync_interval_ms = 50\n', 'sync = "request"\n']
 
@@ -372,16 +373,21 @@ class Waiting:
         return self.waiting & set().union(*[spans for other, end, spans in ends if other != name or end <= place])
 
     def tried_with(self, name, change, wanted):
-        """Starts on a copy of which a file is changed, waits until it has taken again what is pending, if anything is wanted, and closes. Gives the spans of the lines,
+        """Starts on a copy of which a file is changed (`tried_on`)."""
+        return self.tried_on(lambda it, data: change(data) if it == name else data, wanted)
+
+    def tried_on(self, change, wanted):
+        """Starts on a copy of which files are changed, waits until it has taken again what is pending, if anything is wanted, and closes. Gives the spans of the lines,
         or nothing where it refuses the folder by name; and whether it said that the end of a file wasn't read."""
         with tempfile.TemporaryDirectory(dir=self.folder) as folder:
             copy = os.path.join(folder, "ledger")
             shutil.copytree(self.lives.ledger, copy)
-            path = os.path.join(copy, name)
-            with open(path, "rb") as file:
-                data = bytearray(file.read())
-            with open(path, "wb") as file:
-                file.write(change(data))
+            for name in self.files:
+                path = os.path.join(copy, name)
+                with open(path, "rb") as file:
+                    data = bytearray(file.read())
+                with open(path, "wb") as file:
+                    file.write(change(name, data))
             settings = TAKEN + 'log = "json"\nlanes = 2\nshards = 2\n' + LONG + ALL + f'[ledger]\npath = "{copy}"\n'
             try:
                 collector = self.start(settings)
@@ -417,6 +423,66 @@ class Waiting:
             finally:
                 for it in made:
                     it.cancel()
+
+
+class Crashing(Waiting):
+    """A ledger that syncs each request before it is answered, of a life in which nothing was handed over, and what was synced when."""
+
+    def __init__(self, start, folder):
+        library, path = library_of("synced_sizes", folder), os.path.join(folder, "syncs")
+        self.start, self.folder = start, folder
+        surroundings = {"LD_PRELOAD": library, "SYNCS": path}
+        self.lives = Lives(lambda settings: start(settings, surroundings=surroundings), folder, TAKEN + "lanes = 2\nshards = 2\n" + ALL, own_traces)
+        collector, began = self.lives.begin(LONG, 'sync = "request"\n'), time.monotonic()
+        for it in self.lives.sends(collector, requests=20, pause=0):
+            it.join()
+        self.lives.kill(collector, [(began, 0)], True)
+        self.files = sorted(it for it in os.listdir(self.lives.ledger) if it != "lock")
+        with open(path, encoding="utf-8") as file:
+            lines = [line.rstrip("\n").split(" ", 2) for line in file]
+        # Of each sync its moment in seconds, and how much of which file is safe from then on.
+        self.syncs = [(int(moment) / 1e9, os.path.basename(name), int(size)) for moment, size, name in lines]
+
+    def synced(self, count):
+        """How many bytes of each file are safe behind so many syncs."""
+        sizes = dict.fromkeys(self.files, 0)
+        for _, name, size in self.syncs[:count]:
+            if name in sizes:
+                sizes[name] = max(sizes[name], size)
+        return sizes
+
+    def answered_before(self, count):
+        """The spans of the requests that were answered before the sync behind so many."""
+        moment = self.syncs[count][0] if count < len(self.syncs) else float("inf")
+        return {(it.number, first + at) for it in self.lives.senders for first, spans, then in it.answered if then < moment for at in range(spans)}
+
+
+def behind_the_synced(luck, data, size):
+    """A file of which so much was synced, as a crash of the machine may leave it: with nothing behind that, with zeros, with a piece of what was written then, or with
+    a later piece where an earlier one is missing."""
+    rest = data[size:]
+    piece = rest[: luck.randrange(len(rest) + 1)]
+    hole = bytes(min(len(rest), 7))
+    return data[:size] + luck.choice([b"", bytes(luck.randrange(1, 5000)), piece, hole + rest[len(hole) :]])
+
+
+def machine_crashes(start):
+    """A machine that crashes at each sync of a life that syncs each request: of each file there is what was synced until then, and behind it nothing, or what a crash
+    may leave. What was answered 200 before is received again, and nothing wrong."""
+    with tempfile.TemporaryDirectory() as folder:
+        ledger = Crashing(start, folder)
+        want(f"whether {len(ledger.syncs)} syncs are as many as requests, at least", len(ledger.syncs) >= sum(len(it.answered) for it in ledger.lives.senders) > 0, True)
+
+        def attempt(count):
+            luck, sizes, wanted = random.Random(count), ledger.synced(count), ledger.answered_before(count)
+            spans, _ = ledger.tried_on(lambda name, data: behind_the_synced(luck, data, sizes[name]), wanted)
+            want(f"a crash behind {count} syncs: whether the folder is taken", spans is not None, True)
+            ledger.are_right(f"a crash behind {count} syncs", spans, wanted)
+            return len(wanted)
+
+        counts = range(0, len(ledger.syncs) + 1, EXTENT.crashes)
+        answered = ledger.all_at_once([lambda count=count: attempt(count) for count in counts])
+        print(f"machine_crashes: {len(counts)} of {len(ledger.syncs) + 1} places, with 0 to {max(answered)} spans answered before", flush=True)
 
 
 def cut_at_every_byte(start):
@@ -556,7 +622,7 @@ def over_a_backend(start):
         told("over_a_backend", lives, compared(lives, list(enumerate(backend.taken, 1))))
 
 
-CHECKS = [nothing_answered_is_lost, closed_before_all_is_taken, refused_ones_stay, into_short_queues, counted_ones_are_over, errors_and_late_spans, segments_go, full_ledger_answers_busy, full_disk, cut_at_every_byte, one_byte_turned]
+CHECKS = [nothing_answered_is_lost, closed_before_all_is_taken, refused_ones_stay, into_short_queues, counted_ones_are_over, errors_and_late_spans, segments_go, full_ledger_answers_busy, full_disk, cut_at_every_byte, one_byte_turned, machine_crashes]
 CHECKS += [syncs_as_it_is_told, no_ledger_no_folder, ledger_cannot_be_made, over_a_backend]
 
 

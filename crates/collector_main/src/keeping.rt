@@ -69,7 +69,7 @@ where
     ) -> io::Result<Self> {
         let folder = LedgerFolder::open(rt, alloc, config.ledger.path.as_str())?;
         let folder = Arc::new(alloc, folder)?;
-        let earlier = Earlier::read(alloc, &folder, folder.files()?)?;
+        let earlier = Earlier::read_by_threads(rt, alloc, &folder, folder.files()?)?;
         let Some(ledger) = charge.board.ledger().ledger() else {
             return Err(io::Error::from(io::ErrorKind::NotFound));
         };

@@ -1,6 +1,7 @@
 //! What an earlier run left: the requests that have spans without an end.
+use crate::file_reading::{FileRead, RequestPlace, read_file, read_shares, records_of};
 use crate::folder::{FileNumber, LedgerFolder};
-use crate::marking::{SpanPlace, mark_ended};
+use crate::marking::{SpanPlace, mark_pending};
 use otlp_encoding::Encoding;
 use otlp_types::Record;
 use request_ledger::{HEAD_LEN, LedgerEnd, LedgerNote, note_in, record_at, request_in};
@@ -11,6 +12,8 @@ use std::fs::File;
 use std::io;
 use std::io::ErrorKind;
 use std::rt::Files;
+use std::sync::{Arc, Wait};
+use std::thread::Threads;
 
 /// The most spans of a request that is sent again in part.
 const MOST_SPANS: usize = 256;
@@ -20,28 +23,61 @@ const MOST_SPANS: usize = 256;
 pub struct PendingRequest {
     file: FileNumber,
     place: u64,
-    /// Of its spans, in document order, whether each has no end.
+    /// Of its spans, in document order, whether each is received again.
     pub(crate) pending: Vec<bool>,
-    /// How many of its spans have none.
+    /// How many of its spans are.
     pub(crate) spans: u64,
 }
 
 impl PendingRequest {
+    /// A request of so many spans at this place of a file, none of which is marked.
+    pub(crate) fn new(
+        alloc: Global,
+        file: FileNumber,
+        place: u64,
+        spans: usize,
+    ) -> Result<Self, AllocError> {
+        Ok(PendingRequest {
+            file,
+            place,
+            pending: vec![in alloc; false; spans]?,
+            spans: 0,
+        })
+    }
+
     /// The segment and the lane of its file, and its place there.
-    pub fn at(&self) -> (u64, u16, u64) {
+    pub fn at(&self) -> RequestPlace {
         (self.file.segment, self.file.lane.unwrap_or(0), self.place)
     }
 
-    /// How many of its spans have no end.
+    /// How many of its spans are received again.
     pub fn spans(&self) -> u64 {
         self.spans
     }
 }
 
-/// What became of spans in one run, and which requests of earlier ones it took again.
+/// What became of the spans of one run.
 #[derive(Drop)]
 struct RunNotes {
+    run: u64,
     ends: HashMap<TraceId, Vec<LedgerEnd>>,
+}
+
+/// The requests of one run, and their spans.
+#[derive(Drop)]
+struct RunRequests {
+    run: u64,
+    requests: Vec<PendingRequest>,
+    spans: Vec<SpanPlace>,
+}
+
+/// What notes say.
+#[derive(Drop)]
+struct AllNotes {
+    /// By their runs, in order.
+    runs: Vec<RunNotes>,
+    /// Which requests were taken again by a later run.
+    again: BTreeSet<RequestPlace>,
 }
 
 /// What earlier runs left in a folder.
@@ -76,17 +112,58 @@ impl Earlier {
         folder: &LedgerFolder<R>,
         files: Vec<FileNumber>,
     ) -> io::Result<Self> {
-        let mut earlier = Earlier {
+        let mut earlier = Earlier::new(alloc, files);
+        let notes = earlier.read_notes(folder)?;
+        let mut runs = Vec::new(alloc);
+        for number in &earlier.files {
+            if number.lane.is_some() {
+                let read = read_file(alloc, folder, *number, &notes.again)?;
+                earlier.cut = earlier.cut.saturating_add(u64::from(read.is_cut));
+                add_file(alloc, &mut runs, number.run, read)?;
+            }
+        }
+        earlier.mark_all(runs, &notes.runs)?;
+        Ok(earlier)
+    }
+
+    /// The same, by some threads.
+    pub fn read_by_threads<R: Files<File = File> + Threads + Wait + Copy + Send + Sync + 'static>(
+        rt: &R,
+        alloc: Global,
+        folder: &Arc<LedgerFolder<R>, Global>,
+        files: Vec<FileNumber>,
+    ) -> io::Result<Self>
+    where
+        R::Dir: Send + 'static,
+    {
+        let mut earlier = Earlier::new(alloc, files);
+        let AllNotes { runs: told, again } = earlier.read_notes(folder)?;
+        let numbers = earlier.request_files()?;
+        let mut shares = Vec::new(alloc);
+        for share in read_shares(rt, alloc, folder, earlier.request_files()?, again)? {
+            shares.push(share.into_iter())?;
+        }
+        let mut runs = Vec::new(alloc);
+        for (place, number) in numbers.iter().enumerate() {
+            let count = shares.len();
+            let Some(read) = next_of(&mut shares, place % count.max(1)) else {
+                continue;
+            };
+            earlier.cut = earlier.cut.saturating_add(u64::from(read.is_cut));
+            add_file(alloc, &mut runs, number.run, read)?;
+        }
+        earlier.mark_all(runs, &told)?;
+        Ok(earlier)
+    }
+
+    /// Nothing was read of these files.
+    fn new(alloc: Global, files: Vec<FileNumber>) -> Self {
+        Earlier {
             alloc,
             requests: Vec::new(alloc),
             files,
             cut: 0,
-        };
-        let again = earlier.taken_again(folder)?;
-        for run in latest_first(alloc, &earlier.files)? {
-            earlier.read_run(folder, run, &again)?;
         }
-        Ok(earlier)
     }
 
     /// The requests with spans that have no end, in the order in which they are to be sent again.
@@ -109,98 +186,66 @@ impl Earlier {
         &self.files
     }
 
-    /// Which requests were taken again by a later run.
-    fn taken_again<R: Files<File = File> + Copy>(
+    /// The files of requests, in order.
+    fn request_files(&self) -> Result<Vec<FileNumber>, AllocError> {
+        let mut files = Vec::new(self.alloc);
+        for number in &self.files {
+            if number.lane.is_some() {
+                files.push(*number)?;
+            }
+        }
+        Ok(files)
+    }
+
+    /// Reads all notes.
+    fn read_notes<R: Files<File = File> + Copy>(
         &mut self,
         folder: &LedgerFolder<R>,
-    ) -> io::Result<BTreeSet<(u64, u16, u64)>> {
-        let mut again = BTreeSet::new(self.alloc);
+    ) -> io::Result<AllNotes> {
+        let mut notes = AllNotes {
+            runs: Vec::new(self.alloc),
+            again: BTreeSet::new(self.alloc),
+        };
         for number in &self.files {
             if number.lane.is_some() {
                 continue;
             }
-            let bytes = folder.read(*number)?;
-            let mut at = 0;
-            for _ in 0..bytes.len() {
-                let Some(payload) = record_at(&bytes, at) else {
-                    break;
-                };
-                at = at.saturating_add(HEAD_LEN).saturating_add(payload.len());
-                if let Some(
-                    LedgerNote::Again {
-                        segment,
-                        lane,
-                        place,
-                    },
-                ) = note_in(payload)
-                {
-                    again.insert((segment, lane, place))?;
-                }
+            if notes
+                .runs
+                .last()
+                .is_none_or(|last: &RunNotes| last.run != number.run)
+            {
+                notes.runs.push(RunNotes {
+                    run: number.run,
+                    ends: HashMap::new(self.alloc),
+                })?;
             }
-            if at < bytes.len() {
+            let bytes = folder.read(*number)?;
+            if add_notes(self.alloc, &bytes, &mut notes)? < bytes.len() {
                 self.cut = self.cut.saturating_add(1);
-            }
-        }
-        Ok(again)
-    }
-
-    /// What became of spans in a run.
-    fn notes_of<R: Files<File = File> + Copy>(
-        &self,
-        folder: &LedgerFolder<R>,
-        run: u64,
-    ) -> io::Result<RunNotes> {
-        let mut notes = RunNotes {
-            ends: HashMap::new(self.alloc),
-        };
-        for number in &self.files {
-            if number.run != run || number.lane.is_some() {
-                continue;
-            }
-            let bytes = folder.read(*number)?;
-            let mut at = 0;
-            for _ in 0..bytes.len() {
-                let Some(payload) = record_at(&bytes, at) else {
-                    break;
-                };
-                at = at.saturating_add(HEAD_LEN).saturating_add(payload.len());
-                add_end(self.alloc, &mut notes.ends, payload)?;
             }
         }
         Ok(notes)
     }
 
-    /// Reads the requests of a run, and keeps those with spans that have no end.
-    fn read_run<R: Files<File = File> + Copy>(
-        &mut self,
-        folder: &LedgerFolder<R>,
-        run: u64,
-        again: &BTreeSet<(u64, u16, u64)>,
-    ) -> io::Result<()> {
-        let notes = self.notes_of(folder, run)?;
-        let mut requests = Vec::new(self.alloc);
-        let mut spans = Vec::new(self.alloc);
-        for number in &self.files {
-            if number.run != run || number.lane.is_none() {
-                continue;
-            }
-            let bytes = folder.read(*number)?;
-            let end = read_requests(
-                self.alloc,
-                *number,
-                &bytes,
-                again,
-                &mut requests,
-                &mut spans,
-            )?;
-            if end < bytes.len() {
-                self.cut = self.cut.saturating_add(1);
-            }
-        }
-        mark_ended(self.alloc, &mut spans, &notes.ends, &mut requests)?;
-        for request in requests {
-            if 0 < request.spans {
-                self.requests.push(request)?;
+    /// Marks the spans of each run that are received again, by its notes, and keeps the requests that have some.
+    fn mark_all(&mut self, runs: Vec<RunRequests>, told: &[RunNotes]) -> Result<(), AllocError> {
+        let none = HashMap::new(self.alloc);
+        for run in runs.into_iter().rev() {
+            let RunRequests {
+                run,
+                mut requests,
+                mut spans,
+            } = run;
+            let ends = match told.iter().find(|notes| notes.run == run) {
+                Some(notes) => &notes.ends,
+                None => &none,
+            };
+            mark_pending(self.alloc, &mut spans, ends, &mut requests)?;
+            for request in requests {
+                if 0 < request.spans {
+                    self.requests.push(request)?;
+                }
             }
         }
         Ok(())
@@ -258,105 +303,92 @@ fn latest_first(alloc: Global, files: &[FileNumber]) -> Result<Vec<u64>, AllocEr
     Ok(runs)
 }
 
-/// What a note says of a trace, if it says something of one.
-fn end_in(payload: &[u8]) -> Option<(TraceId, LedgerEnd)> {
-    match note_in(payload)? {
-        LedgerNote::Counted {
-            trace,
-            moment,
-            spans,
-        } => Some((trace, LedgerEnd::Counted { moment, spans })),
-        LedgerNote::Handed { trace, span } => Some((trace, LedgerEnd::Handed(span))),
-        LedgerNote::Again { .. } => None,
-    }
+/// What the share at this place has next.
+fn next_of(shares: &mut [std::vec::IntoIter<FileRead>], place: usize) -> Option<FileRead> {
+    shares.get_mut(place)?.next()
 }
 
-/// Adds what a note says of a trace to its ends, if it says something of one.
-fn add_end(
+/// Adds what stands in a file of a run to what stands in those before.
+fn add_file(
     alloc: Global,
-    ends: &mut HashMap<TraceId, Vec<LedgerEnd>>,
-    payload: &[u8],
+    runs: &mut Vec<RunRequests>,
+    run: u64,
+    read: FileRead,
 ) -> Result<(), AllocError> {
-    let Some((trace, end)) = end_in(payload) else {
+    if runs.last().is_none_or(|last: &RunRequests| last.run != run) {
+        runs.push(RunRequests {
+            run,
+            requests: Vec::new(alloc),
+            spans: Vec::new(alloc),
+        })?;
+    }
+    let Some(last) = runs.last_mut() else {
         return Ok(());
     };
-    let of_trace = ends.entry(trace)?.or_insert(Vec::new(alloc));
-    match of_trace.push(end) {
-        Ok(()) => Ok(()),
-        Err(_) => Err(AllocError),
+    let before = last.requests.len();
+    for mut place in read.spans {
+        place.request = place.request.saturating_add(before);
+        last.spans.push(place)?;
     }
+    for request in read.requests {
+        last.requests.push(request)?;
+    }
+    Ok(())
 }
 
-/// Reads the requests of a file, and their spans, and answers up to where it has whole records.
-fn read_requests(
-    alloc: Global,
-    file: FileNumber,
-    bytes: &[u8],
-    again: &BTreeSet<(u64, u16, u64)>,
-    requests: &mut Vec<PendingRequest>,
-    spans: &mut Vec<SpanPlace>,
-) -> io::Result<usize> {
-    let lane = file.lane.unwrap_or(0);
+/// Adds the notes in a file to those of its run, the last, and answers up to where it has whole records of notes.
+fn add_notes(alloc: Global, bytes: &[u8], notes: &mut AllNotes) -> Result<usize, AllocError> {
     let mut at = 0;
     for _ in 0..bytes.len() {
         let Some(payload) = record_at(bytes, at) else {
             break;
         };
-        let place = at as u64;
+        let Some(note) = note_in(payload) else {
+            break;
+        };
         at = at.saturating_add(HEAD_LEN).saturating_add(payload.len());
-        if again.contains(&(file.segment, lane, place)) {
-            continue;
-        }
-        let Some(entry) = request_in(payload) else {
-            continue;
-        };
-        let Some(records) = records_of(alloc, entry.encoding, entry.text)? else {
-            continue;
-        };
-        let request = requests.len();
-        put_spans(&records, entry.moment, request, spans)?;
-        requests.push(PendingRequest {
-            file,
-            place,
-            pending: vec![in alloc; false; records.len()]?,
-            spans: 0,
-        })?;
+        add_note(alloc, note, notes)?;
     }
     Ok(at)
 }
 
-/// The spans of a request's text, in document order. None: it is no request.
-fn records_of(
-    alloc: Global,
-    encoding: Encoding,
-    text: &[u8],
-) -> Result<Option<Vec<Record>>, AllocError> {
-    match otlp_request::decode(alloc, encoding, true, text) {
-        Ok(request) => Ok(Some(otlp_flatten::flatten(alloc, request)?)),
-        Err(otlp_request::DecodeError::Bad(_)) => Ok(None),
-        Err(otlp_request::DecodeError::NoMemory) => Err(AllocError),
+/// Adds a note to those of its run, the last.
+fn add_note(alloc: Global, note: LedgerNote, notes: &mut AllNotes) -> Result<(), AllocError> {
+    match note {
+        LedgerNote::Counted {
+            trace,
+            moment,
+            spans,
+        } => add_end(alloc, notes, trace, LedgerEnd::Counted { moment, spans }),
+        LedgerNote::Handed { trace, span } => {
+            add_end(alloc, notes, trace, LedgerEnd::Handed(span))
+        }
+        LedgerNote::Again {
+            segment,
+            lane,
+            place,
+        } => {
+            notes.again.insert((segment, lane, place))?;
+            Ok(())
+        }
     }
 }
 
-/// Puts the places of those spans of a request that have valid ids behind the others.
-fn put_spans(
-    records: &[Record],
-    moment: u64,
-    request: usize,
-    spans: &mut Vec<SpanPlace>,
+/// Adds what a note says of a trace to the ends of its run, the last.
+fn add_end(
+    alloc: Global,
+    notes: &mut AllNotes,
+    trace: TraceId,
+    end: LedgerEnd,
 ) -> Result<(), AllocError> {
-    for (number, record) in records.iter().enumerate() {
-        if let Some(ids) = record.span.get().ids {
-            spans.push(SpanPlace {
-                trace: ids.trace,
-                moment,
-                request,
-                number,
-                span: ids.span,
-            })?;
-        }
+    let Some(run) = notes.runs.last_mut() else {
+        return Ok(());
+    };
+    let of_trace = run.ends.entry(trace)?.or_insert(Vec::new(alloc));
+    match of_trace.push(end) {
+        Ok(()) => Ok(()),
+        Err(_) => Err(AllocError),
     }
-    Ok(())
 }
 
 /// Puts bodies with those of the spans that have no end.

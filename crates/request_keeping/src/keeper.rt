@@ -3,19 +3,13 @@ use crate::folder::{FileNumber, LedgerFolder};
 use crate::ledger::{LedgerNews, RequestLedger};
 use crate::notes::Notes;
 use crate::releases::Releases;
-use request_ledger::{LedgerNote, ShardStanding, has_room, is_settled};
+use request_ledger::{LedgerNote, ShardStanding, ends_at, has_room, is_settled, may_go};
 use std::alloc::{AllocError, Global};
 use std::collections::VecDeque;
 use std::fs::File;
 use std::io;
 use std::rt::Files;
 use std::sync::{Arc, Wait};
-
-/// After so long a new segment is begun, in milliseconds.
-const SEGMENT_TIME: u64 = 10_000;
-
-/// With so many bytes a new segment is begun.
-const SEGMENT_BYTES: u64 = 67_108_864;
 
 /// So many bytes are left for requests that are under way when the folder is found to be full.
 const SPARE: u64 = 65_536;
@@ -62,6 +56,11 @@ pub struct Keeper<R: Files<File = File>> {
     notes: Notes,
     releases: Releases,
     closed: VecDeque<ClosedSegment>,
+    /// What was told last by shards and by the exporter, where it isn't noted yet, and how many of the spans that the exporter
+    /// took first are to be noted.
+    told: Option<LedgerNews>,
+    pulled: Option<LedgerNews>,
+    settled: u64,
     /// Another handle of each lane's file, to sync it without holding up its lane.
     open: Vec<File>,
     /// When the segment under way began, when all was synced last, and when files couldn't be opened last.
@@ -97,6 +96,9 @@ impl<R: Files<File = File> + Copy> Keeper<R> {
             notes: Notes::new(alloc),
             releases: Releases::new(alloc),
             closed: VecDeque::new(alloc),
+            told: None,
+            pulled: None,
+            settled: 0,
             open: Vec::new(alloc),
             began: now,
             synced: now,
@@ -112,7 +114,7 @@ impl<R: Files<File = File> + Copy> Keeper<R> {
         // released before the exporter settled it.
         let standings = ledger.standings(self.alloc);
         let settled = ledger.take_settled();
-        let has_noted = self.notes_all(rt, ledger, settled).is_ok();
+        let has_noted = self.note_all(rt, ledger, settled).is_ok();
         let is_written = self.notes.write().is_ok();
         let is_broken = !has_noted || !is_written || lacks_file(rt, ledger);
         if is_broken && self.failed.is_none() {
@@ -122,7 +124,8 @@ impl<R: Files<File = File> + Copy> Keeper<R> {
             Some(since) => self.try_again(rt, ledger, since, now),
             None => {
                 self.sync_if_due(now);
-                if self.is_due(ledger, now) && self.begin_segment(rt, ledger, now).is_err() {
+                let is_due = ends_at(self.began, now, ledger.open_bytes());
+                if is_due && self.begin_segment(rt, ledger, now).is_err() {
                     self.failed = Some(now);
                 }
                 if let Ok(standings) = standings {
@@ -134,31 +137,42 @@ impl<R: Files<File = File> + Copy> Keeper<R> {
         ledger.shows(self.failed.is_some(), is_full);
     }
 
-    /// Notes what shards told, and what became of so many spans that the exporter took. An error: there is no memory; what
-    /// wasn't noted comes again, or is sent twice after a kill.
-    fn notes_all<W: Wait>(
+    /// Notes what shards told, and what became of so many more spans that the exporter took. An error: there is no memory.
+    /// What couldn't be noted is noted at the next turn, before what was told behind it: were it forgotten, a segment would go
+    /// before its spans are handed over.
+    fn note_all<W: Wait>(
         &mut self,
         rt: &W,
         ledger: &RequestLedger,
         settled: u64,
     ) -> Result<(), AllocError> {
+        self.settled = self.settled.saturating_add(settled);
         for _ in 0..MOST_NEWS {
-            let Some(news) = ledger.take_news(rt) else {
+            if self.told.is_none() {
+                self.told = ledger.take_news(rt);
+            }
+            let Some(news) = self.told else {
                 break;
             };
-            self.notes_news(news)?;
+            self.note(news)?;
+            self.told = None;
         }
-        for _ in 0..settled {
-            let Some(news) = ledger.take_pulled(rt) else {
+        for _ in 0..self.settled {
+            if self.pulled.is_none() {
+                self.pulled = ledger.take_pulled(rt);
+            }
+            let Some(news) = self.pulled else {
                 break;
             };
-            self.notes_news(news)?;
+            self.note(news)?;
+            self.pulled = None;
+            self.settled = self.settled.saturating_sub(1);
         }
         Ok(())
     }
 
-    /// Notes what was told.
-    fn notes_news(&mut self, news: LedgerNews) -> Result<(), AllocError> {
+    /// Notes what was told. An error: there is no memory, and nothing was noted.
+    fn note(&mut self, news: LedgerNews) -> Result<(), AllocError> {
         match news {
             LedgerNews::Counted {
                 trace,
@@ -170,8 +184,9 @@ impl<R: Files<File = File> + Copy> Keeper<R> {
                 spans,
             }),
             LedgerNews::Pulled { trace, span } => {
+                self.notes.put(&LedgerNote::Handed { trace, span })?;
                 self.releases.settled(trace);
-                self.notes.put(&LedgerNote::Handed { trace, span })
+                Ok(())
             }
             LedgerNews::Released { trace, spans } => {
                 self.releases.released(trace, spans, self.segment)
@@ -216,13 +231,6 @@ impl<R: Files<File = File> + Copy> Keeper<R> {
         if self.notes.sync().is_err() {
             self.failed = Some(now);
         }
-    }
-
-    /// Whether a new segment is to begin.
-    fn is_due(&self, ledger: &RequestLedger, now: u64) -> bool {
-        let bytes = ledger.open_bytes();
-        let is_old = self.began.saturating_add(SEGMENT_TIME) <= now && 0 < bytes;
-        is_old || SEGMENT_BYTES <= bytes
     }
 
     /// The number of a file of the segment under way: that of a lane, or of the notes.
@@ -300,22 +308,12 @@ impl<R: Files<File = File> + Copy> Keeper<R> {
             let Some(first) = self.closed.front().copied() else {
                 return;
             };
-            if !self.is_over(&first) || self.remove(ledger, &first).is_err() {
+            let is_over = may_go(first.settled, self.releases.oldest());
+            if !is_over || self.remove(ledger, &first).is_err() {
                 return;
             }
             ledger.removes(first.bytes);
             self.closed.pop_front();
-        }
-    }
-
-    /// Whether every span of a segment has its end: none waits in a shard, and none is on its way.
-    fn is_over(&self, closed: &ClosedSegment) -> bool {
-        let Some(settled) = closed.settled else {
-            return false;
-        };
-        match self.releases.oldest() {
-            Some(oldest) => settled < oldest,
-            None => true,
         }
     }
 

@@ -13,6 +13,7 @@
 #![tactic(auto)]
 
 mod earlier;
+mod file_reading;
 mod folder;
 mod keeper;
 mod lane_file;

@@ -1,6 +1,6 @@
-//! Which spans of an earlier run have their end.
+//! Which spans of an earlier run are received again.
 use crate::earlier::PendingRequest;
-use request_ledger::{LedgerEnd, LedgerSpan, ended_of};
+use request_ledger::{LedgerEnd, LedgerSpan, is_over};
 use span_ids::{SpanId, TraceId};
 use std::alloc::{AllocError, Global};
 use std::collections::HashMap;
@@ -15,8 +15,9 @@ pub struct SpanPlace {
     pub span: SpanId,
 }
 
-/// Marks in the requests which of these spans have no end, by what was told of their traces.
-pub fn mark_ended(
+/// Marks in the requests the spans of those traces of which a span has no end, by what was told of them: such a trace is
+/// received again whole.
+pub fn mark_pending(
     alloc: Global,
     spans: &mut Vec<SpanPlace>,
     ends: &HashMap<TraceId, Vec<LedgerEnd>>,
@@ -38,7 +39,7 @@ pub fn mark_ended(
     mark_trace(alloc, &of_trace, ends, requests)
 }
 
-/// Marks which of the spans of one trace have no end.
+/// Marks the spans of one trace, if one of them has no end.
 fn mark_trace(
     alloc: Global,
     spans: &[SpanPlace],
@@ -48,53 +49,31 @@ fn mark_trace(
     let Some(first) = spans.first() else {
         return Ok(());
     };
-    let mut kept = Vec::new(alloc);
-    for place in spans {
-        kept.push(LedgerSpan {
-            span: place.span,
-            moment: place.moment,
-        })?;
-    }
-    let mut flags = match ends.get(&first.trace) {
-        Some(told) => ended_of(alloc, &kept, told)?,
-        None => vec![in alloc; false; kept.len()]?,
-    };
-    let is_part = flags.iter().any(|ended| *ended) && flags.iter().any(|ended| !*ended);
-    if is_part {
-        if let Some(told) = ends.get(&first.trace) {
-            flags = ended_of(alloc, &kept, counted_alone(alloc, told)?.as_slice())?;
+    if let Some(told) = ends.get(&first.trace) {
+        let mut of_ledger = Vec::with_capacity(alloc, spans.len())?;
+        for place in spans {
+            of_ledger.push(LedgerSpan {
+                span: place.span,
+                moment: place.moment,
+            })?;
+        }
+        if is_over(alloc, &of_ledger, told)? {
+            return Ok(());
         }
     }
-    mark_flags(spans, &flags, requests);
+    for place in spans {
+        mark(place, requests);
+    }
     Ok(())
 }
 
-/// Of what was told of a trace, how many of its spans were counted. So a trace of which some spans were handed over and
-/// others not is sent again whole, and decided on all of its spans: better twice than by a part of them.
-fn counted_alone(alloc: Global, told: &[LedgerEnd]) -> Result<Vec<LedgerEnd>, AllocError> {
-    let mut counted = Vec::new(alloc);
-    for end in told {
-        if let LedgerEnd::Counted { .. } = end {
-            counted.push(*end)?;
-        }
-    }
-    Ok(counted)
-}
-
-/// Marks the spans that have no end in their requests.
-fn mark_flags(spans: &[SpanPlace], ended: &[bool], requests: &mut Vec<PendingRequest>) {
-    let mut flags = ended.iter();
-    for place in spans {
-        let is_over = flags.next().copied().unwrap_or(false);
-        let Some(request) = requests.get_mut(place.request) else {
-            continue;
-        };
-        if is_over {
-            continue;
-        }
-        if let Some(pending) = request.pending.get_mut(place.number) {
-            *pending = true;
-            request.spans = request.spans.saturating_add(1);
-        }
+/// Marks a span in its request.
+fn mark(place: &SpanPlace, requests: &mut Vec<PendingRequest>) {
+    let Some(request) = requests.get_mut(place.request) else {
+        return;
+    };
+    if let Some(pending) = request.pending.get_mut(place.number) {
+        *pending = true;
+        request.spans = request.spans.saturating_add(1);
     }
 }

@@ -27,12 +27,13 @@ impl Releases {
         }
     }
 
-    /// So many spans of a trace were released in this segment.
+    /// So many spans of a trace were released in this segment. An error: there is no memory, and nothing has changed.
     pub fn released(&mut self, trace: TraceId, spans: u64, segment: u64) -> Result<(), AllocError> {
         if let Some(way) = self.traces.get_mut(&trace) {
             way.spans = way.spans.saturating_add(spans);
             return Ok(());
         }
+        self.traces.reserve(1)?;
         let count = self.segments.entry(segment)?.or_insert(0);
         *count = count.saturating_add(1);
         let way = OnTheirWay { spans, segment };

@@ -10,7 +10,7 @@ use Rattle.request_ledger.specs.declared.pending.LedgerEnd.{LedgerEnd}
 use Rattle.request_ledger.specs.declared.pending.LedgerEnd.TheVariants.{Handed}
 use Rattle.request_ledger.specs.Pending.{how_many, is_of, may_end, count_may_end, with_oldest, after_end, after_ends, ended_spans}
 
-and_no : (b : Bool) → (b && false) ≡ false
+pub and_no : (b : Bool) → (b && false) ≡ false
 and_no true = refl
 and_no false = refl
 
@@ -20,7 +20,7 @@ with_none end [] flags = refl
 with_none end (span ∷ spans) [] = refl
 with_none end (span ∷ spans) (ended ∷ flags) = ap (λ (l : List Bool). ended ∷ l) (with_none end spans flags)
 
-abbrev one_if : Bool → ℕ
+abbrev pub one_if : Bool → ℕ
 one_if b = cond b 1 0
 
 -- where none may end, none does
@@ -69,7 +69,7 @@ count_ended flags = count_by (λ ended. ended) flags
 
 -- ---- no more end than an end says
 
-count_cons : (ended : Bool) (flags : List Bool) → count_ended (ended ∷ flags) ≡ cond ended 1 0 + count_ended flags
+pub count_cons : (ended : Bool) (flags : List Bool) → count_ended (ended ∷ flags) ≡ cond ended 1 0 + count_ended flags
 count_cons ended flags = sum_by-cons (λ e. cond e 1 0) ended flags
 
 pub at_most : (end : LedgerEnd) (n : ℕ) (spans : List LedgerSpan) (flags : List Bool) → count_ended (with_oldest end n spans flags) ≤ count_ended flags + n

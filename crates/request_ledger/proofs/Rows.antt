@@ -8,8 +8,8 @@ use Rattle.request_ledger.specs.declared.pending.LedgerEnd.TheVariants as ends
 use Rattle.request_ledger.specs.Sums.{after_bytes, sums_of}
 use Rattle.request_ledger.specs.Format.{record_of, record_in, records_in, told_len, told_payload, is_record, records_past}
 use Rattle.request_ledger.specs.Entries.{LedgerRequest, request_bytes, request_in, note_bytes, note_in}
-use Rattle.request_ledger.specs.Pending.{ended_spans}
-use Rattle.request_ledger.specs.Removal.{is_settled}
+use Rattle.request_ledger.specs.Pending.{ended_spans, is_over}
+use Rattle.request_ledger.specs.Removal.{is_settled, may_go}
 
 -- ---- sums
 
@@ -214,6 +214,15 @@ too_many_then_fewer : ended_spans spans (ends.Handed (67 ∷ 67 ∷ 67 ∷ 67 �
 unfolding spans
 too_many_then_fewer = refl
 
+-- a trace is over with its last end, whatever these are of
+over_by_both : is_over spans (ends.Counted 9 4 ∷ ends.Handed (65 ∷ 65 ∷ 65 ∷ 65 ∷ 65 ∷ 65 ∷ 65 ∷ 65 ∷ []) ∷ []) ≡ true
+unfolding spans
+over_by_both = refl
+
+one_is_left : is_over spans (ends.Counted 9 4 ∷ ends.Handed (66 ∷ 66 ∷ 66 ∷ 66 ∷ 66 ∷ 66 ∷ 66 ∷ 66 ∷ []) ∷ []) ≡ false
+unfolding spans
+one_is_left = refl
+
 -- ---- when a segment may go
 
 all_past : is_settled 100 20 (record { told = 121; oldest = None } ∷ record { told = 130; oldest = Some 121 } ∷ record { told = 125; oldest = Some 122 } ∷ []) ≡ true
@@ -233,3 +242,15 @@ no_shard = refl
 
 past_64_bits : is_settled 18446744073709551615 1 (record { told = 18446744073709551615; oldest = None } ∷ []) ≡ false
 past_64_bits = refl
+
+never_settled : may_go None None ≡ false
+never_settled = refl
+
+nothing_on_its_way : may_go (Some 4) None ≡ true
+nothing_on_its_way = refl
+
+released_later : may_go (Some 4) (Some 5) ≡ true
+released_later = refl
+
+released_meanwhile : may_go (Some 4) (Some 4) ≡ false
+released_meanwhile = refl

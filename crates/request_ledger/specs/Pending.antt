@@ -1,5 +1,6 @@
 -- Which spans of one trace have ended. The spans stand in the order in which they came, the oldest first.
-use Rattle.std.specs.Prelude.{◌≡◌, ◌⊎◌, ◌≤◌, ℕ, ◌+◌, ◌-◌, nat_lt, nat_le, Bool, true, false, not, ◌&&◌, if◌then◌else◌, List, [], ◌∷◌, ◌++◌, length, take, replicate, bytes_eq, sum_by, count_by, slice_get, Some}
+use Rattle.std.specs.List.{AllByRecursion, list_all}
+use Rattle.std.specs.Prelude.{◌≡◌, ◌⊎◌, ◌≤◌, ℕ, ◌+◌, ◌-◌, nat_lt, nat_le, Bool, true, false, not, ◌&&◌, if◌then◌else◌, List, [], ◌∷◌, ◌++◌, length, take, replicate, bytes_eq, sum_by, count_by, map, slice_get, Some}
 use Rattle.request_ledger.specs.declared.pending.LedgerSpan.{LedgerSpan}
 use Rattle.request_ledger.specs.declared.pending.LedgerEnd.{LedgerEnd}
 use Rattle.request_ledger.specs.declared.pending.LedgerEnd.TheVariants.{Handed, Counted}
@@ -44,6 +45,10 @@ after_ends spans flags (end ∷ ends) = after_ends spans (after_end spans flags 
 abbrev pub ended_spans : List LedgerSpan → List LedgerEnd → List Bool
 ended_spans spans ends = after_ends spans (replicate (length spans) false) ends
 
+-- all have ended; else the whole trace is received again
+abbrev pub is_over : List LedgerSpan → List LedgerEnd → Bool
+is_over spans ends = list_all (λ ended. ended) (ended_spans spans ends)
+
 -- all spans before a place have ended
 abbrev pub HaveEnded : ℕ → List Bool → Type 0
 HaveEnded place flags = (place ≤ length flags) × (take place flags ≡ replicate place true)
@@ -61,3 +66,21 @@ EndsAllOrNone =
 -- a span that has ended stays so, whatever ends follow
 abbrev pub EndedStayEnded : Type 0
 EndedStayEnded = (spans : List LedgerSpan) (ends more : List LedgerEnd) (i : ℕ) → slice_get (ended_spans spans ends) i ≡ Some true → slice_get (ended_spans spans (ends ++ more)) i ≡ Some true
+
+-- a trace is left out at the next start only where the ends say of as many spans as it has that they have ended
+abbrev pub OverIsTold : Type 0
+OverIsTold = (spans : List LedgerSpan) (ends : List LedgerEnd) → is_over spans ends ≡ true → length spans ≤ sum_by how_many ends
+
+-- and it is left out where each of its spans was handed over
+abbrev pub HandedIsOver : Type 0
+HandedIsOver = (spans : List LedgerSpan) → is_over spans (map (λ span. Handed span.span) spans) ≡ true
+
+-- or all of them were counted
+abbrev pub CountedIsOver : Type 0
+CountedIsOver = (spans : List LedgerSpan) (moment : ℕ) → AllByRecursion (λ span. span.moment ≤ moment) spans → is_over spans (Counted moment (length spans) ∷ []) ≡ true
+
+-- where no more ends were told than spans had one, a trace is received again of which a span has none
+abbrev pub PendingComesAgain : Type 0
+PendingComesAgain =
+    (spans : List LedgerSpan) (has_end : List Bool) (ends : List LedgerEnd) (i : ℕ) → length has_end ≡ length spans → sum_by how_many ends ≤ count_by (λ has. has) has_end → slice_get has_end i ≡ Some false
+    → is_over spans ends ≡ false

@@ -22,9 +22,10 @@ mod writing;
 
 pub use entries::{RequestEntry, put_request, request_in};
 pub use laws::{
-    ended_stay_ended, ends_all_or_none, nothing_ends_twice, records_read_back, turned_byte_is_found,
+    counted_is_over, ended_stay_ended, ends_all_or_none, handed_is_over, nothing_ends_twice,
+    over_is_told, pending_comes_again, records_read_back, turned_byte_is_found,
 };
 pub use notes::{LedgerNote, note_in, put_note};
-pub use pending::{LedgerEnd, LedgerSpan, ended_of};
+pub use pending::{LedgerEnd, LedgerSpan, ended_of, is_over};
 pub use records::{HEAD_LEN, put_record, record_at};
-pub use removal::{ShardStanding, has_room, is_settled};
+pub use removal::{ShardStanding, ends_at, has_room, is_settled, may_go};

@@ -1,6 +1,6 @@
 //! Which spans of one trace have ended, by the notes of it.
 ghost use Rattle.std.specs.Prelude.{◌≡◌, length, IfOk};
-ghost use Rattle.request_ledger.specs.Pending.{HaveEnded, is_of, may_end, count_may_end, with_oldest, after_end, ended_spans};
+ghost use Rattle.request_ledger.specs.Pending.{HaveEnded, is_of, is_over, may_end, count_may_end, with_oldest, after_end, ended_spans};
 
 use span_ids::{Moment, SpanId};
 use std::alloc::{AllocError, Global};
@@ -41,6 +41,15 @@ pub fn ended_of(
         take_end(spans, &mut ended, first, end);
     }
     Ok(ended)
+}
+
+/// Whether each span of a trace has ended. Where one hasn't, the next start receives the trace again, whole: so it is decided
+/// by all of its spans, and it doesn't matter which of them a note of some meant.
+pub fn is_over(alloc: Global, spans: &[LedgerSpan], ends: &[LedgerEnd]) -> Result<bool, AllocError>
+    ensures { IfOk result (λ over. over ≡ is_over spans.now ends.now) }
+{
+    let ended = ended_of(alloc, spans, ends)?;
+    Ok(ended.iter().all(|ended| *ended))
 }
 
 /// The place of the first span that hasn't ended, where all before `from` have.

@@ -1,8 +1,14 @@
 //! When a segment may go, and whether there is room for more.
 ghost use Rattle.std.specs.Prelude.{◌≡◌, ◌+◌, ◌*◌, ◌≤◌, ◌↔◌, IsTrue};
-ghost use Rattle.request_ledger.specs.Removal.{is_none_or_past, is_past, is_settled};
+ghost use Rattle.request_ledger.specs.Removal.{EndsAt, is_none_or_past, is_past, is_settled, may_go};
 
 use span_ids::Moment;
+
+/// After so long a segment ends, in milliseconds.
+const SEGMENT_TIME: u64 = 10_000;
+
+/// With so many bytes a segment ends.
+const SEGMENT_BYTES: u64 = 67_108_864;
 
 /// What a shard has told.
 #[derive(Clone, Copy, Debug, PartialEq, Eq)]
@@ -43,4 +49,25 @@ pub fn has_room(used: u64, more: u64, max_mib: u64) -> bool
     ensures { IsTrue result ↔ (used + more ≤ max_mib * 1048576) }
 {
     u128::from(used) + u128::from(more) <= u128::from(max_mib) * 1_048_576
+}
+
+/// Whether a segment that began at a moment and has so many bytes ends now. One without a request goes on.
+pub fn ends_at(began: Moment, now: Moment, bytes: u64) -> bool
+    ensures { IsTrue result ↔ EndsAt began now bytes }
+{
+    let is_old = u128::from(began) + u128::from(SEGMENT_TIME) <= u128::from(now) && 0 < bytes;
+    is_old || SEGMENT_BYTES <= bytes
+}
+
+/// Whether a segment may go: none of its spans waits in a shard, which was known while the segment of this number was written,
+/// if it was; and whatever was released up to then was handed over or given up. The oldest span that is on its way was released
+/// while the segment of that number was written, if one is on its way.
+pub fn may_go(settled: Option<u64>, oldest: Option<u64>) -> bool
+    ensures { result ≡ may_go settled oldest }
+{
+    match (settled, oldest) {
+        (None, _) => false,
+        (Some(_), None) => true,
+        (Some(settled), Some(oldest)) => settled < oldest,
+    }
 }
