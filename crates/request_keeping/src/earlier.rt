@@ -4,7 +4,7 @@ use crate::marking::{SpanPlace, mark_ended};
 use otlp_encoding::Encoding;
 use otlp_types::Record;
 use request_ledger::{HEAD_LEN, LedgerEnd, LedgerNote, note_in, record_at, request_in};
-use span_ids::TraceId;
+use span_ids::{ConnKey, TraceId};
 use std::alloc::{AllocError, Global};
 use std::collections::{BTreeSet, HashMap};
 use std::fs::File;
@@ -24,6 +24,10 @@ pub struct PendingRequest {
     pub(crate) pending: Vec<bool>,
     /// How many of its spans have none.
     pub(crate) spans: u64,
+    /// How many of these were noted as handed over, and come again with the rest of their trace.
+    pub(crate) handed: u64,
+    /// On which connection it came, and when.
+    came: (ConnKey, u64),
 }
 
 impl PendingRequest {
@@ -35,6 +39,21 @@ impl PendingRequest {
     /// How many of its spans have no end.
     pub fn spans(&self) -> u64 {
         self.spans
+    }
+
+    /// How many of these were noted as handed over, and come again with the rest of their trace.
+    pub fn handed_again(&self) -> u64 {
+        self.handed
+    }
+
+    /// In which run it came.
+    pub fn run(&self) -> u64 {
+        self.file.run
+    }
+
+    /// On which connection of that run it came, and when, in milliseconds.
+    pub fn came(&self) -> (ConnKey, u64) {
+        self.came
     }
 }
 
@@ -54,6 +73,8 @@ pub struct Earlier {
     files: Vec<FileNumber>,
     /// How many files have an end that can't be read.
     cut: u64,
+    /// The traces of which spans have no end.
+    traces: BTreeSet<TraceId>,
 }
 
 /// The bytes of the file that was read last, if one was.
@@ -81,6 +102,7 @@ impl Earlier {
             requests: Vec::new(alloc),
             files,
             cut: 0,
+            traces: BTreeSet::new(alloc),
         };
         let again = earlier.taken_again(folder)?;
         for run in latest_first(alloc, &earlier.files)? {
@@ -197,7 +219,8 @@ impl Earlier {
                 self.cut = self.cut.saturating_add(1);
             }
         }
-        mark_ended(self.alloc, &mut spans, &notes.ends, &mut requests)?;
+        let traces = &mut self.traces;
+        mark_ended(self.alloc, &mut spans, &notes.ends, &mut requests, traces)?;
         for request in requests {
             if 0 < request.spans {
                 self.requests.push(request)?;
@@ -243,6 +266,11 @@ impl Earlier {
         };
         put_bodies(self.alloc, records, &request.pending, &mut bodies)?;
         Ok(bodies)
+    }
+
+    /// Of how many traces there are spans that have no end.
+    pub fn traces(&self) -> u64 {
+        self.traces.len() as u64
     }
 }
 
@@ -320,6 +348,8 @@ fn read_requests(
             place,
             pending: vec![in alloc; false; records.len()]?,
             spans: 0,
+            handed: 0,
+            came: (entry.connection, entry.moment),
         })?;
     }
     Ok(at)

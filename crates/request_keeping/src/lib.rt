@@ -20,8 +20,10 @@ mod ledger;
 mod marking;
 mod notes;
 mod releases;
+mod totals;
 
 pub use earlier::{Earlier, LoadedFile, PendingRequest};
 pub use folder::{FileNumber, LedgerFolder};
 pub use keeper::{Keeper, KeeperSettings};
 pub use ledger::{LedgerNews, RequestLedger};
+pub use totals::FileTotals;

@@ -3,7 +3,7 @@ use crate::earlier::PendingRequest;
 use request_ledger::{LedgerEnd, LedgerSpan, ended_of};
 use span_ids::{SpanId, TraceId};
 use std::alloc::{AllocError, Global};
-use std::collections::HashMap;
+use std::collections::{BTreeSet, HashMap};
 
 /// A span of a request, by its place among the requests and its number in document order.
 #[derive(Clone, Copy)]
@@ -15,12 +15,14 @@ pub struct SpanPlace {
     pub span: SpanId,
 }
 
-/// Marks in the requests which of these spans have no end, by what was told of their traces.
+/// Marks in the requests which of these spans have no end, by what was told of their traces; the traces of
+/// these are added to `traces`.
 pub fn mark_ended(
     alloc: Global,
     spans: &mut Vec<SpanPlace>,
     ends: &HashMap<TraceId, Vec<LedgerEnd>>,
     requests: &mut Vec<PendingRequest>,
+    traces: &mut BTreeSet<TraceId>,
 ) -> Result<(), AllocError> {
     // Those of a trace together, as they came; in one moment as they stand in the files.
     spans.sort_by_key(|place| (place.trace, place.moment, place.request, place.number))?;
@@ -30,12 +32,12 @@ pub fn mark_ended(
             .first()
             .is_none_or(|first: &SpanPlace| first.trace == place.trace)
         {
-            mark_trace(alloc, &of_trace, ends, requests)?;
+            mark_trace(alloc, &of_trace, ends, requests, traces)?;
             of_trace.clear();
         }
         of_trace.push(*place)?;
     }
-    mark_trace(alloc, &of_trace, ends, requests)
+    mark_trace(alloc, &of_trace, ends, requests, traces)
 }
 
 /// Marks which of the spans of one trace have no end.
@@ -44,6 +46,7 @@ fn mark_trace(
     spans: &[SpanPlace],
     ends: &HashMap<TraceId, Vec<LedgerEnd>>,
     requests: &mut Vec<PendingRequest>,
+    traces: &mut BTreeSet<TraceId>,
 ) -> Result<(), AllocError> {
     let Some(first) = spans.first() else {
         return Ok(());
@@ -62,8 +65,13 @@ fn mark_trace(
     let is_part = flags.iter().any(|ended| *ended) && flags.iter().any(|ended| !*ended);
     if is_part {
         if let Some(told) = ends.get(&first.trace) {
+            let before = flags;
             flags = ended_of(alloc, &kept, counted_alone(alloc, told)?.as_slice())?;
+            mark_handed(spans, &before, &flags, requests);
         }
+    }
+    if flags.iter().any(|ended| !*ended) && traces.insert(first.trace).is_err() {
+        return Err(AllocError);
     }
     mark_flags(spans, &flags, requests);
     Ok(())
@@ -79,6 +87,24 @@ fn counted_alone(alloc: Global, told: &[LedgerEnd]) -> Result<Vec<LedgerEnd>, Al
         }
     }
     Ok(counted)
+}
+
+/// Counts in the requests the spans that had their end by all that was told, and have none by a part of it: they come again.
+fn mark_handed(
+    spans: &[SpanPlace],
+    before: &[bool],
+    after: &[bool],
+    requests: &mut Vec<PendingRequest>,
+) {
+    let mut flags = before.iter().zip(after.iter());
+    for place in spans {
+        let Some((true, false)) = flags.next().map(|(one, other)| (*one, *other)) else {
+            continue;
+        };
+        if let Some(request) = requests.get_mut(place.request) {
+            request.handed = request.handed.saturating_add(1);
+        }
+    }
 }
 
 /// Marks the spans that have no end in their requests.
