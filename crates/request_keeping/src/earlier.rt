@@ -2,6 +2,7 @@
 use crate::file_reading::{FileRead, RequestPlace, read_file, read_shares, records_of};
 use crate::folder::{FileNumber, LedgerFolder};
 use crate::marking::{SpanPlace, mark_pending};
+use crate::pending_request::PendingRequest;
 use otlp_encoding::Encoding;
 use otlp_types::Record;
 use request_ledger::{HEAD_LEN, LedgerEnd, LedgerNote, note_in, record_at, request_in};
@@ -17,44 +18,6 @@ use std::thread::Threads;
 
 /// The most spans of a request that is sent again in part.
 const MOST_SPANS: usize = 256;
-
-/// A request some of whose spans have no end.
-#[derive(Drop)]
-pub struct PendingRequest {
-    file: FileNumber,
-    place: u64,
-    /// Of its spans, in document order, whether each is received again.
-    pub(crate) pending: Vec<bool>,
-    /// How many of its spans are.
-    pub(crate) spans: u64,
-}
-
-impl PendingRequest {
-    /// A request of so many spans at this place of a file, none of which is marked.
-    pub(crate) fn new(
-        alloc: Global,
-        file: FileNumber,
-        place: u64,
-        spans: usize,
-    ) -> Result<Self, AllocError> {
-        Ok(PendingRequest {
-            file,
-            place,
-            pending: vec![in alloc; false; spans]?,
-            spans: 0,
-        })
-    }
-
-    /// The segment and the lane of its file, and its place there.
-    pub fn at(&self) -> RequestPlace {
-        (self.file.segment, self.file.lane.unwrap_or(0), self.place)
-    }
-
-    /// How many of its spans are received again.
-    pub fn spans(&self) -> u64 {
-        self.spans
-    }
-}
 
 /// What became of the spans of one run.
 #[derive(Drop)]
@@ -90,6 +53,8 @@ pub struct Earlier {
     files: Vec<FileNumber>,
     /// How many files have an end that can't be read.
     cut: u64,
+    /// The traces of which spans have no end, in each run.
+    traces: u64,
 }
 
 /// The bytes of the file that was read last, if one was.
@@ -163,6 +128,7 @@ impl Earlier {
             requests: Vec::new(alloc),
             files,
             cut: 0,
+            traces: 0,
         }
     }
 
@@ -174,6 +140,11 @@ impl Earlier {
     /// The runs of which there are files, the latest first.
     pub fn runs(&self) -> Result<Vec<u64>, AllocError> {
         latest_first(self.alloc, &self.files)
+    }
+
+    /// Of how many traces there are spans that have no end; one that came in several runs counts in each.
+    pub fn traces(&self) -> u64 {
+        self.traces
     }
 
     /// How many files have an end that can't be read.
@@ -241,7 +212,8 @@ impl Earlier {
                 Some(notes) => &notes.ends,
                 None => &none,
             };
-            mark_pending(self.alloc, &mut spans, ends, &mut requests)?;
+            let traces = mark_pending(self.alloc, &mut spans, ends, &mut requests)?;
+            self.traces = self.traces.saturating_add(traces);
             for request in requests {
                 if 0 < request.spans {
                     self.requests.push(request)?;

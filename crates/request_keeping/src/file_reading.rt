@@ -1,7 +1,7 @@
 //! The requests that stand in the files of earlier runs, read by some threads.
-use crate::earlier::PendingRequest;
 use crate::folder::{FileNumber, LedgerFolder};
 use crate::marking::SpanPlace;
+use crate::pending_request::PendingRequest;
 use otlp_encoding::Encoding;
 use otlp_types::Record;
 use request_ledger::{HEAD_LEN, RequestEntry, record_at, request_in};
@@ -151,8 +151,8 @@ fn read_request(
     };
     let request = read.requests.len();
     put_spans(&records, entry.moment, request, &mut read.spans)?;
-    read.requests
-        .push(PendingRequest::new(alloc, file, place, records.len())?)?;
+    let came = (entry.connection, entry.moment);
+    read.requests.push(PendingRequest::new(alloc, file, place, records.len(), came)?)?;
     Ok(())
 }
 

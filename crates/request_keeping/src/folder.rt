@@ -53,14 +53,14 @@ impl FileNumber {
     }
 }
 
-/// The folder of a ledger, which no other process has meanwhile.
+/// The folder of a ledger, which no other process has meanwhile, unless it is only looked at.
 #[derive(Drop)]
 pub struct LedgerFolder<R: Files<File = File>> {
     rt: R,
     alloc: Global,
     path: String,
-    /// Its lock is let go with it.
-    _lock: File,
+    /// Its lock is let go with it. None: it is only looked at.
+    _lock: Option<File>,
 }
 
 impl<R: Files<File = File> + Copy> LedgerFolder<R> {
@@ -78,7 +78,7 @@ impl<R: Files<File = File> + Copy> LedgerFolder<R> {
             rt: *rt,
             alloc,
             path: String::from_str(alloc, path)?,
-            _lock: lock,
+            _lock: Some(lock),
         })
     }
 
@@ -154,6 +154,17 @@ impl<R: Files<File = File> + Copy> LedgerFolder<R> {
         }
         files.sort_by_key(|number| (number.run, number.segment, number.lane))?;
         Ok(files)
+    }
+
+    /// The folder at this path, to look at what is in it: it isn't made or locked, and another process may change it
+    /// meanwhile.
+    pub fn look(rt: &R, alloc: Global, path: &str) -> io::Result<Self> {
+        Ok(LedgerFolder {
+            rt: *rt,
+            alloc,
+            path: String::from_str(alloc, path)?,
+            _lock: None,
+        })
     }
 }
 

@@ -73,6 +73,10 @@ pub struct RequestLedger {
     /// Requests and spans of an earlier run that were received again, and files whose end wasn't read.
     restored_requests: AtomicU64,
     restored_spans: AtomicU64,
+    /// Of what earlier runs left: traces, spans that had been handed over, and how long all took, in milliseconds.
+    earlier_traces: AtomicU64,
+    handed_again: AtomicU64,
+    restoring_time: AtomicU64,
     refused_requests: AtomicU64,
     cut_files: AtomicU64,
     is_restored: AtomicBool,
@@ -115,6 +119,9 @@ impl RequestLedger {
             is_full: AtomicBool::new(false),
             restored_requests: AtomicU64::new(0),
             restored_spans: AtomicU64::new(0),
+            earlier_traces: AtomicU64::new(0),
+            handed_again: AtomicU64::new(0),
+            restoring_time: AtomicU64::new(0),
             refused_requests: AtomicU64::new(0),
             cut_files: AtomicU64::new(0),
             is_restored: AtomicBool::new(false),
@@ -334,5 +341,35 @@ impl RequestLedger {
     /// How many files of an earlier run have an end that can't be read.
     pub fn cut(&self) -> u64 {
         self.cut_files.load(Ordering::Relaxed)
+    }
+
+    /// Earlier runs left spans of so many traces.
+    pub fn finds(&self, traces: u64) {
+        self.earlier_traces.store(traces, Ordering::Relaxed);
+    }
+
+    /// Of the spans that were received again, so many had been noted as handed over.
+    pub fn hands_again(&self, spans: u64) {
+        self.handed_again.fetch_add(spans, Ordering::Relaxed);
+    }
+
+    /// To read what earlier runs left, or to receive it again, took so many milliseconds.
+    pub fn takes(&self, milliseconds: u64) {
+        self.restoring_time
+            .fetch_add(milliseconds, Ordering::Relaxed);
+    }
+
+    /// Of how many traces earlier runs left spans, and how long it took to read these and receive them again, in
+    /// milliseconds.
+    pub fn found(&self) -> (u64, u64) {
+        (
+            self.earlier_traces.load(Ordering::Relaxed),
+            self.restoring_time.load(Ordering::Relaxed),
+        )
+    }
+
+    /// How many of the spans that were received again had been noted as handed over.
+    pub fn handed_again(&self) -> u64 {
+        self.handed_again.load(Ordering::Relaxed)
     }
 }

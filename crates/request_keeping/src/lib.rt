@@ -20,9 +20,13 @@ mod lane_file;
 mod ledger;
 mod marking;
 mod notes;
+mod pending_request;
 mod releases;
+mod totals;
 
-pub use earlier::{Earlier, LoadedFile, PendingRequest};
+pub use earlier::{Earlier, LoadedFile};
 pub use folder::{FileNumber, LedgerFolder};
 pub use keeper::{Keeper, KeeperSettings};
 pub use ledger::{LedgerNews, RequestLedger};
+pub use pending_request::PendingRequest;
+pub use totals::FileTotals;
