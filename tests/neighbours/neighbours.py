@@ -14,6 +14,7 @@ import applications
 import days
 import encoded
 import figures
+import kills
 import proxies
 from running import Failure, Here
 
@@ -21,7 +22,7 @@ from running import Failure, Here
 def main():
     passed = failed = 0
     named = sys.argv[3:]
-    for check in proxies.CHECKS + applications.CHECKS + encoded.CHECKS + days.CHECKS + figures.CHECKS:
+    for check in proxies.CHECKS + applications.CHECKS + encoded.CHECKS + days.CHECKS + figures.CHECKS + kills.CHECKS:
         if named and check.__name__ not in named:
             continue
         with tempfile.TemporaryDirectory() as folder:
