@@ -69,12 +69,16 @@ where
     ) -> io::Result<Self> {
         let folder = LedgerFolder::open(rt, alloc, config.ledger.path.as_str())?;
         let folder = Arc::new(alloc, folder)?;
+        let clock = SteadyClock::new(rt);
+        let began = clock.now();
         let earlier = Earlier::read_by_threads(rt, alloc, &folder, folder.files()?)?;
         let Some(ledger) = charge.board.ledger().ledger() else {
             return Err(io::Error::from(io::ErrorKind::NotFound));
         };
         let kept = Arc::try_clone(&folder)?;
-        let now = SteadyClock::new(rt).now();
+        let now = clock.now();
+        ledger.finds(earlier.traces());
+        ledger.takes(now.saturating_sub(began));
         let settings = settings_of(config);
         let keeper = Keeper::begin(alloc, kept, earlier.files(), ledger, settings, now, rt)?;
         let thread = LedgerThread::start(rt, keeper, Arc::try_clone(charge)?)?;

@@ -1,5 +1,6 @@
 //! What a collector shares with those in charge of it.
-ghost use Rattle.std.specs.Prelude.{◌≡◌, IfSome};
+ghost use Rattle.std.specs.Prelude.{◌≡◌, ◌++◌, IfSome, OnOk, string_bytes};
+ghost use Rattle.collector_serve.specs.Told.{ledger_part};
 
 use crate::admin_door::end_admin;
 use crate::history::History;
@@ -11,7 +12,7 @@ use decision_json::{decisions_text, trace_text};
 use decision_line::TraceHeld;
 use http_lane::{Clock as Moments, HasStopMark};
 use lane_driver::Loads;
-use metrics_text::{Metrics, metrics_text};
+use metrics_text::{LedgerCounts, Metrics, metrics_text, put_ledger};
 use otlp_types::Text;
 use output_file::ReopenMark;
 use span_ids::TraceId;
@@ -94,6 +95,16 @@ impl Charge {
             failed_tries: export.failed_tries(),
             given_up: export.given_up(),
         }))
+    }
+
+    /// The numbers of the ledger, where there is one.
+    fn ledger_counts(&self) -> Option<LedgerCounts> {
+        let ledger = self.board.ledger().ledger()?;
+        let (_, restored_spans, _) = ledger.restored();
+        Some(LedgerCounts {
+            restored_spans,
+            handed_again: ledger.handed_again(),
+        })
     }
 
     /// The numbers now, of a collector that has been at work since then.
@@ -185,6 +196,16 @@ impl<'c, R: Clock + Wait> InCharge<'c, R> {
     }
 }
 
+/// Puts the numbers of a ledger behind the others, where there is one.
+fn put_counts(text: &mut String, counts: Option<LedgerCounts>) -> Result<(), AllocError>
+    ensures { OnOk result (string_bytes text.new ≡ string_bytes text.old ++ ledger_part counts) }
+{
+    match counts {
+        Some(counts) => put_ledger(text, &counts),
+        None => Ok(()),
+    }
+}
+
 impl<'c, R: Clock + Wait> Admin for InCharge<'c, R> {
     ghost use Rattle.std.specs.Prelude.{◌≡◌, None, false, is_some, string_bytes};
     ghost use Rattle.collector_serve.specs.Told.{IsToldAt};
@@ -222,7 +243,8 @@ impl<'c, R: Clock + Wait> Admin for InCharge<'c, R> {
         let metrics = self.charge.metrics(self.rt, self.began);
         let policies = self.charge.board.decisions(alloc)?;
         let shards = self.charge.board.shards(alloc)?;
-        let text = metrics_text(alloc, &metrics, &policies, &shards)?;
+        let mut text = metrics_text(alloc, &metrics, &policies, &shards)?;
+        put_counts(&mut text, self.charge.ledger_counts())?;
         Ok(text)
     }
 

@@ -16,7 +16,16 @@ pub struct LedgerKnown {
 pub struct LedgerEvent {
     pub level: Level,
     pub name: &'static str,
-    pub fields: [LogField<'static>; 2],
+    fields: [LogField<'static>; 5],
+    /// How many of the fields there are.
+    count: usize,
+}
+
+impl LedgerEvent {
+    /// What it tells.
+    pub fn fields(&self) -> &[LogField<'static>] {
+        self.fields.get(..self.count).unwrap_or(&[])
+    }
 }
 
 impl LedgerKnown {
@@ -68,8 +77,19 @@ impl LedgerKnown {
         if requests == 0 && refused == 0 {
             return None;
         }
-        let fields = [number("requests", requests), number("spans", spans)];
-        Some(event(level_of(refused), name_of(refused), fields))
+        let (traces, milliseconds) = ledger.found();
+        Some(LedgerEvent {
+            level: level_of(refused),
+            name: name_of(refused),
+            fields: [
+                number("requests", requests),
+                number("spans", spans),
+                number("traces", traces),
+                number("handed_again", ledger.handed_again()),
+                number("took_ms", milliseconds),
+            ],
+            count: 5,
+        })
     }
 }
 
@@ -91,11 +111,14 @@ fn name_of(refused: u64) -> &'static str {
     }
 }
 
+/// An event that tells two numbers.
 fn event(level: Level, name: &'static str, fields: [LogField<'static>; 2]) -> LedgerEvent {
+    let [one, other] = fields;
     LedgerEvent {
         level,
         name,
-        fields,
+        fields: [one, other, other, other, other],
+        count: 2,
     }
 }
 

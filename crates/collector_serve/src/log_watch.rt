@@ -105,7 +105,7 @@ fn watch<W: Write + Drop, R: Wait + Clock>(
         look_at_output(rt, alloc, &mut events, charge, &mut known, now);
         if let Some(event) = of_ledger.look(charge) {
             let (level, name) = (event.level, event.name);
-            say(rt, alloc, &mut events, charge, level, name, &event.fields);
+            say(rt, alloc, &mut events, charge, level, name, event.fields());
         }
         look_at_end(rt, alloc, &mut events, charge, &mut known);
     }

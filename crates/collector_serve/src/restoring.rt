@@ -1,7 +1,8 @@
 //! What an earlier run left is sent to the collector again, by itself.
 use crate::charge::Charge;
 use crate::serving::port_alone;
-use http_lane::HasStopMark;
+use crate::steady_clock::SteadyClock;
+use http_lane::{Clock as Moments, HasStopMark};
 use otlp_encoding::Encoding;
 use request_keeping::{Earlier, LedgerFolder, LedgerNews, LoadedFile};
 use std::alloc::{AllocError, Global};
@@ -146,7 +147,11 @@ where
         return;
     };
     ledger.cuts(sending.earlier.cut());
-    match send_all(rt, &sending) {
+    let clock = SteadyClock::new(rt);
+    let began = clock.now();
+    let end = send_all(rt, &sending);
+    ledger.takes(clock.now().saturating_sub(began));
+    match end {
         SendEnd::All => {
             for number in sending.earlier.files() {
                 let _ = sending.folder.remove(*number);
@@ -290,6 +295,7 @@ fn send_share<
                 },
             );
             ledger.restores(request.spans());
+            ledger.hands_again(request.handed_again());
         } else {
             ledger.refuses();
             taken_all = false;

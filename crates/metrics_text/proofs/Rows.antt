@@ -1,9 +1,10 @@
 -- Worked rows, computed: the whole text of two metrics, and the lines of each kind of family.
--- They serve the definition that `metrics_text` promises.
+-- They serve the definitions that `metrics_text` and `put_ledger` promise.
 use Rattle.std.proofs.Common.{◌≡◌, ◌++◌, refl, replicate, [], ◌∷◌}
 use Rattle.std.specs.Prelude.{codes}
 use Rattle.std.specs.Fmt.{digits}
 use Rattle.metrics_text.specs.Text.{metrics_text}
+use Rattle.metrics_text.specs.Ledgers.{ledger_lines}
 
 -- nothing was counted
 all_zero : metrics_text (record { report = replicate 9 0; open_connections = 0; uptime_seconds = 0; spans_waiting = 0; received_bytes = 0; sent_bytes = 0; lines = 0; output_bytes = 0; memory_bytes = 0; answered_200 = 0; answered_400 = 0; answered_404 = 0; answered_405 = 0; answered_408 = 0; answered_413 = 0; answered_415 = 0; answered_431 = 0; answered_503 = 0; late_sampled = 0; late_not_sampled = 0; rejected = 0; attempts_taken = 0; attempts_refused = 0; attempts_unanswered = 0; output_stalled_seconds = 0; oldest_waiting_seconds = 0; log_warnings = 0; log_errors = 0; clock_jumps = 0; closed_idle = 0; incomplete = 0 }) [] []
@@ -210,3 +211,14 @@ all_distinct : metrics_text (record { report = 18446744073709551615 ∷ 21 ∷ 3
     ++ codes "tsc_shard_spans_waiting{shard=\"1\"} 213\n"
 unfolding digits
 all_distinct = refl
+
+-- a ledger's numbers, of which no two are the same
+of_a_ledger : ledger_lines (record { restored_spans = 41; handed_again = 7 })
+    ≡ codes "# HELP tsc_spans_restored_total Spans of earlier runs that were received again.\n"
+    ++ codes "# TYPE tsc_spans_restored_total counter\n"
+    ++ codes "tsc_spans_restored_total 41\n"
+    ++ codes "# HELP tsc_spans_handed_again_total Spans that were received again though an earlier run had noted them as handed over.\n"
+    ++ codes "# TYPE tsc_spans_handed_again_total counter\n"
+    ++ codes "tsc_spans_handed_again_total 7\n"
+unfolding digits
+of_a_ledger = refl

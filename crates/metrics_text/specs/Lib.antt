@@ -3,3 +3,4 @@ pub mod Figures
 pub mod Deciders
 pub mod Shards
 pub mod Text
+pub mod Ledgers

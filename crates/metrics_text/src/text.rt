@@ -38,7 +38,7 @@ fn put_sample(text: &mut String, name: &str, labels: &str, value: u64) -> Result
 }
 
 /// Appends a family of one sample.
-fn put_single(
+pub fn put_single(
     text: &mut String,
     name: &str,
     help: &str,
