@@ -1,7 +1,9 @@
 //! What the threads of a run tell the board.
+ghost use Rattle.std.specs.Prelude.{⊤};
+
 use crate::board::Board;
 use decision_line::{DecidedTrace, EvictedTrace, LateSpans, Said, TraceHeld};
-use span_ids::{SpanId, TraceId};
+use span_ids::{Moment, SpanId, TraceId};
 use std::sync::Wait;
 use std::sync::atomic::Ordering;
 use thread_watch::{Barrier, ShardLoad, Watcher};
@@ -43,7 +45,15 @@ impl Watcher for Board {
         }
     }
 
-    fn hears_decisions(&self) -> bool {
+    ghost unheard = { λ _ _ _. ⊤ };
+
+    ghost told_decided = { λ _ _ _. ⊤ };
+
+    ghost told_evicted = { λ _ _. ⊤ };
+
+    ghost told_late = { λ _ _. ⊤ };
+
+    fn hears_decisions(&self, _shard: u16, _moment: Moment) -> bool {
         self.listeners.hears() || self.ledger.ledger().is_some()
     }
 

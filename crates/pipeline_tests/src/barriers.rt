@@ -1,4 +1,9 @@
 //! Barriers that hold one thread until another has reached a place, and give up after so many turns.
+ghost use Rattle.std.specs.Prelude.{⊤};
+
+use decision_line::{DecidedTrace, EvictedTrace, LateSpans, Said};
+use span_ids::Moment;
+use std::sync::Wait;
 use std::sync::atomic::{AtomicBool, Ordering};
 use std::thread;
 use thread_watch::{Barrier, ThreadPlace, Watcher};
@@ -93,7 +98,25 @@ impl Places {
 #[derive(Drop)]
 pub struct LanesMeet<'p>(pub &'p Places);
 
-impl<'p> Watcher for LanesMeet<'p> {}
+impl<'p> Watcher for LanesMeet<'p> {
+    ghost unheard = { λ _ _ _. ⊤ };
+
+    ghost told_decided = { λ _ _ _. ⊤ };
+
+    ghost told_evicted = { λ _ _. ⊤ };
+
+    ghost told_late = { λ _ _. ⊤ };
+
+    fn hears_decisions(&self, _shard: u16, _moment: Moment) -> bool {
+        false
+    }
+
+    fn trace_decided<R: Wait>(&self, _rt: &R, _decision: &DecidedTrace, _said: &[Said]) {}
+
+    fn trace_evicted<R: Wait>(&self, _rt: &R, _evicted: &EvictedTrace) {}
+
+    fn spans_late<R: Wait>(&self, _rt: &R, _late: &LateSpans) {}
+}
 
 impl<'p> Barrier for LanesMeet<'p> {
     fn reach(&self, place: ThreadPlace) {
@@ -111,7 +134,25 @@ impl<'p> Barrier for LanesMeet<'p> {
 #[derive(Drop)]
 pub struct ShardsBeginEarly<'p>(pub &'p Places);
 
-impl<'p> Watcher for ShardsBeginEarly<'p> {}
+impl<'p> Watcher for ShardsBeginEarly<'p> {
+    ghost unheard = { λ _ _ _. ⊤ };
+
+    ghost told_decided = { λ _ _ _. ⊤ };
+
+    ghost told_evicted = { λ _ _. ⊤ };
+
+    ghost told_late = { λ _ _. ⊤ };
+
+    fn hears_decisions(&self, _shard: u16, _moment: Moment) -> bool {
+        false
+    }
+
+    fn trace_decided<R: Wait>(&self, _rt: &R, _decision: &DecidedTrace, _said: &[Said]) {}
+
+    fn trace_evicted<R: Wait>(&self, _rt: &R, _evicted: &EvictedTrace) {}
+
+    fn spans_late<R: Wait>(&self, _rt: &R, _late: &LateSpans) {}
+}
 
 impl<'p> Barrier for ShardsBeginEarly<'p> {
     fn reach(&self, place: ThreadPlace) {
@@ -134,7 +175,25 @@ impl<'p> Barrier for ShardsBeginEarly<'p> {
 #[derive(Drop)]
 pub struct ShardsMeet<'p>(pub &'p Places);
 
-impl<'p> Watcher for ShardsMeet<'p> {}
+impl<'p> Watcher for ShardsMeet<'p> {
+    ghost unheard = { λ _ _ _. ⊤ };
+
+    ghost told_decided = { λ _ _ _. ⊤ };
+
+    ghost told_evicted = { λ _ _. ⊤ };
+
+    ghost told_late = { λ _ _. ⊤ };
+
+    fn hears_decisions(&self, _shard: u16, _moment: Moment) -> bool {
+        false
+    }
+
+    fn trace_decided<R: Wait>(&self, _rt: &R, _decision: &DecidedTrace, _said: &[Said]) {}
+
+    fn trace_evicted<R: Wait>(&self, _rt: &R, _evicted: &EvictedTrace) {}
+
+    fn spans_late<R: Wait>(&self, _rt: &R, _late: &LateSpans) {}
+}
 
 impl<'p> Barrier for ShardsMeet<'p> {
     fn reach(&self, place: ThreadPlace) {

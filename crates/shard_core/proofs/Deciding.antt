@@ -10,7 +10,7 @@ use Rattle.policy_eval.specs.declared.answer.Answer.{Answer}
 use Rattle.policy_eval.specs.Given.{verdict_given, decider_given, told_given, asked_given, are_answered, Asked}
 use Rattle.trace_buffer.specs.Buffer.{Episode, settled, settle_first, is_due_at, is_root_due, is_too_big, opened_by}
 use Rattle.journal_theory.specs.Journal.{Entry, Journal, Opening, in_buffer, notes_dealt, due_now, clock, policies_for, spans_since, answered, IsAnsweredUpTo}
-use Rattle.journal_theory.specs.Standing.{Standing, standing, episode}
+use Rattle.journal_theory.specs.Standing.{Standing, episode}
 use Rattle.span_ids.specs.declared.outcome.Verdict.{Verdict}
 use Rattle.otlp_types.specs.declared.arrival.Arrival.{Arrival}
 use Rattle.shard_core.specs.Held.{Held, settings, StandsFor, has_due, is_finished, is_due_in, due_by}

@@ -7,7 +7,7 @@ use Rattle.span_ids.specs.declared.outcome.Verdict.TheVariants.{Sampled, NotSamp
 use Rattle.decision_cache.specs.Lists.{is_held, asked}
 use Rattle.trace_buffer.specs.Buffer.{Episode, episode_of}
 use Rattle.journal_theory.specs.Journal.{Journal, finding, notes}
-use Rattle.journal_theory.specs.Laws.{State, state_found, state_cached, state_by, state_in}
+use Rattle.journal_theory.specs.Laws.{State, state_found, state_by, state_in}
 use Rattle.journal_theory.specs.Standing.{Standing}
 use Rattle.journal_theory.proofs.FoundAsHeld.{found_as_held}
 use Rattle.shard_core.specs.Held.{Held, settings, StandsFor, has_due, is_finished}

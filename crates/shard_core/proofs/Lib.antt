@@ -4,6 +4,7 @@ mod Codes
 mod Opening
 mod Stands
 pub mod Deciding
+mod DueTold
 mod Effects
 mod Fates
 pub mod Sent

@@ -1,7 +1,9 @@
 -- What is told of the trace that is decided next, of its decision, of traces that leave undecided, and of late spans.
-use Rattle.std.specs.Prelude.{ℕ, ◌+◌, Bool, if◌then◌else◌, nat_le, cond, is_none, length, Option, Some, None, option_map}
+use Rattle.std.specs.Prelude.{ℕ, ◌+◌, Bool, if◌then◌else◌, nat_le, cond, is_none, List, [], ◌∷◌, length, Option, Some, None, option_map}
 use Rattle.std.specs.List.{find}
 use Rattle.trace_buffer.specs.Buffer.{Episode, is_due_at, is_too_big}
+use Rattle.journal_theory.specs.Journal.{Settings, Journal, Opening, clock, have_ended, is_oversized, spans_since}
+use Rattle.journal_theory.specs.Standing.{mark}
 use Rattle.shard_core.specs.Held.{Held, is_finished, due_by}
 use Rattle.decision_line.specs.declared.decision.DueCause.{DueCause}
 use Rattle.decision_line.specs.declared.decision.DueCause.TheVariants.{Wait, RootWait, Size, Close}
@@ -41,6 +43,25 @@ told_of h e = record {
 -- what is told of the episode that is decided next, if one is due
 abbrev pub due_trace : Held → Option DueTrace
 due_trace h = option_map (told_of h) (find (is_due_at (due_by h).0 (due_by h).1 (due_by h).2) h.standing.episodes)
+
+-- why an episode that is due at the journal's last item is decided then: it is too big, nothing more comes, it had waited
+-- at the last tick, or its root had
+abbrev pub cause_at : Settings → Journal → Opening → DueCause
+cause_at s past o =
+    if is_oversized s past o then Size
+    else if have_ended past s.senders then Close
+    else if nat_le (o.moment + s.decision_wait) (mark past) then Wait
+    else RootWait
+
+-- what is told of an episode that is due at the journal's last item, on the spans that it has then
+abbrev pub due_told : Settings → Journal → Opening → DueTrace
+due_told s past o = record { trace = o.trace; opened = o.moment; moment = clock past; spans = length (spans_since past o); cause = cause_at s past o }
+
+-- what is told of the trace that is decided next, by the episodes that are still to be decided: of the first, if there
+-- is one
+abbrev pub next_told : Settings → Journal → List Opening → Option DueTrace
+next_told s past [] = None
+next_told s past (o ∷ later) = Some (due_told s past o)
 
 -- what is told of a trace that was decided so
 abbrev told_with : Verdict → (decider : Option ℕ) → DueTrace → DecidedTrace

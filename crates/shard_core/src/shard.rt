@@ -75,9 +75,10 @@ impl Model for Shard {
 impl Shard {
     ghost use Rattle.shard_core.specs.Held.{StandsFor, has_due, is_finished, due_by, settings, settings_of};
     ghost use Rattle.shard_core.specs.Taking.{entry, ends_after, answer_to, is_refusal, is_kept, only_clock, TellsFate, is_last, released_by, dropped_by, Decides, DecidesWithDecider, DecidesWithAnswers, waiting, released_in, dropped_in, dealt_after};
-    ghost use Rattle.journal_theory.specs.Journal.{has_ids, finding, notes};
+    ghost use Rattle.std.specs.Prelude.{drop};
+    ghost use Rattle.journal_theory.specs.Journal.{due_now, has_ids, finding, notes};
     ghost use Rattle.journal_theory.specs.Marked.{marks_apply};
-    ghost use Rattle.shard_core.specs.Telling.{due_trace};
+    ghost use Rattle.shard_core.specs.Telling.{due_trace, next_told};
     ghost use Rattle.shard_core.specs.HeldTrace.{trace_held, state_told};
     ghost use Rattle.journal_theory.specs.Laws.{state_found};
     ghost use Rattle.shard_core.specs.Holding.{held_after_tick, held_after_end, TakesSpan};
@@ -371,6 +372,7 @@ impl Shard {
     /// The trace that is decided next, if one is due.
     pub fn next_due(&mut self) -> Option<DueTrace>
         ensures due { result ≡ due_trace self.old }
+        ensures told { (past : Journal) (dealt : ℕ) → StandsFor self.old past dealt → result ≡ next_told (settings self.old) past (drop dealt (due_now (settings self.old) past)) }
         ensures same { self.new ≡ self.old }
     {
         self.search();

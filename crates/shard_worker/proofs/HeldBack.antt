@@ -15,12 +15,14 @@ use Rattle.lane_queue.specs.Moments.{WasEmpty}
 use Rattle.lane_queue.specs.Merges.{of, IsMergeOf}
 use Rattle.lane_queue.proofs.Merging.{of-append, of_same, of_other, merge_more, merge_swap}
 use Rattle.lane_queue.proofs.Called.{pops-append, empty-append, still_empty}
-use Rattle.journal_theory.specs.Journal.{Entry, Settings, has_ids}
+use Rattle.journal_theory.specs.Journal.{Entry, Settings, Journal, has_ids}
 use Rattle.journal_theory.specs.Marked.{MarksApply, marks_apply}
 use Rattle.shard_core.specs.Held.{Held, settings}
 use Rattle.shard_worker.specs.Work.{items, places, journal_of, is_tick, IsBehind}
-use Rattle.shard_worker.specs.Turns.{HasDone, TakesItem, HasTaken, HoldsBack, IsCalled, AreAt, IsOf}
+use Rattle.shard_worker.specs.News.{News, AreTold, news, news_now}
+use Rattle.shard_worker.specs.Turns.{HasDone, TellsItem, HasTaken, HoldsBack, IsCalled, AreAt, IsOf}
 use Rattle.shard_worker.proofs.Journals.{journal_one, items_more, unmarked}
+use Rattle.shard_worker.proofs.Told.{told_both}
 
 -- an item that is no span has valid ids
 pub no_tick : (item : Item) → has_ids item ≡ false → is_tick item ≡ false
@@ -51,21 +53,22 @@ of_one place popped e is k apart = ap (of k) (items_more popped place e) ∙ of_
 pub one_longer : (place n : ℕ) (popped : List (ℕ × Entry)) (e : Entry) → length (of place (items popped)) ≡ n → length (of place (items (popped ++ (place, e) ∷ []))) ≡ n + 1
 one_longer place n popped e is = ap (λ l. length (of place l)) (items_more popped place e) ∙ ap length (of_same place (items popped) e.item) ∙ length-append (of place (items popped)) (e.item ∷ []) ∙ ap (λ m. m + 1) is
 
-module _ {L : Type 0} (asks : L → ℕ → ℕ → ℕ → Bool → L → Type 0) (first : L) (n : ℕ) (s : Settings) (before : TallyState) where
+module _ {L : Type 0} (told : News → Type 0) (asks : L → ℕ → ℕ → ℕ → Bool → L → Type 0) (first : L) (n : ℕ) (s : Settings) (before : TallyState) where
   -- the next item was popped, and is held back
   pub popping : (place : ℕ) (item : Item) (old new : List (EndState Item)) (shard : Held) (shipped : List Shipment) (tally : TallyState) (limiter : L) (popped : List (ℕ × Entry))
-      → TakesAt n place item old new → HasTaken asks first s old before shard shipped tally limiter popped → HoldsBack asks first s new before shard shipped tally limiter popped place item
-  popping place item old new shard shipped tally limiter popped takes has = (merge_more n place item old new (items popped) takes has.0, has.1, has.2)
+      → TakesAt n place item old new → HasTaken told asks first s old before shard shipped tally limiter popped → HoldsBack told asks first s new before shard shipped tally limiter popped place item
+  popping place item old new shard shipped tally limiter popped takes has = (merge_more n place item old new (items popped) takes has.0, has.1, has.2, has.3)
 
   -- what was held back is taken
   pub releasing : (place : ℕ) (item : Item) (ends : List (EndState Item)) (shard shard' : Held) (shipped shipped' : List Shipment) (tally tally' : TallyState) (limiter limiter' : L) (popped : List (ℕ × Entry))
-      → settings shard' ≡ s → has_ids item ≡ true → HoldsBack asks first s ends before shard shipped tally limiter popped place item
-      → (t : TakesItem asks first before shard' shipped' tally' limiter' item (journal_of popped)) → HasTaken asks first s ends before shard' shipped' tally' limiter' (popped ++ (place, t.taken) ∷ [])
+      → settings shard' ≡ s → has_ids item ≡ true → HoldsBack told asks first s ends before shard shipped tally limiter popped place item
+      → (t : TellsItem told asks first before shard' shipped' tally' limiter' item (journal_of popped)) → HasTaken told asks first s ends before shard' shipped' tally' limiter' (popped ++ (place, t.0.taken) ∷ [])
   releasing place item ends shard shard' shipped shipped' tally tally' limiter limiter' popped is some holds t =
-      let same = journal_one popped place t.taken true (ap has_ids t.item_is ∙ some) in (
-        subst (λ l. IsMergeOf ends l) (sym (items_more popped place t.taken ∙ ap (λ i. items popped ++ (place, i) ∷ []) t.item_is)) holds.0,
-        subst (λ J. MarksApply s J) (sym same) (subst (λ z. marks_apply z t.taken (journal_of popped) ≡ true) is t.marked, holds.1),
-        subst (λ J. HasDone asks first before shard' shipped' tally' limiter' J) (sym same) t.done,
+      let same = journal_one popped place t.0.taken true (ap has_ids t.0.item_is ∙ some) in (
+        subst (λ l. IsMergeOf ends l) (sym (items_more popped place t.0.taken ∙ ap (λ i. items popped ++ (place, i) ∷ []) t.0.item_is)) holds.0,
+        subst (λ J. MarksApply s J) (sym same) (subst (λ z. marks_apply z t.0.taken (journal_of popped) ≡ true) is t.0.marked, holds.1),
+        subst (λ J. AreTold told (news s J)) (sym same) (told_both told (news s (journal_of popped)) (news_now s (t.0.taken ∷ journal_of popped)) holds.2 (subst (λ z. AreTold told (news_now z (t.0.taken ∷ journal_of popped))) is t.1)),
+        subst (λ J. HasDone asks first before shard' shipped' tally' limiter' J) (sym same) t.0.done,
       )
 
   merged : (place at : ℕ) (item held : Item) (old new : List (EndState Item)) (popped : List (ℕ × Entry)) (e : Entry) → at ≢ place → e.item ≡ item → TakesAt n place item old new
@@ -76,25 +79,55 @@ module _ {L : Type 0} (asks : L → ℕ → ℕ → ℕ → Bool → L → Type 
 
   -- an item of another queue was popped and taken
   pub holding_taking : (place at : ℕ) (item held : Item) (old new : List (EndState Item)) (shard shard' : Held) (shipped shipped' : List Shipment) (tally tally' : TallyState) (limiter limiter' : L) (popped : List (ℕ × Entry))
-      → at ≢ place → settings shard' ≡ s → has_ids item ≡ true → TakesAt n place item old new → HoldsBack asks first s old before shard shipped tally limiter popped at held
-      → (t : TakesItem asks first before shard' shipped' tally' limiter' item (journal_of popped)) → HoldsBack asks first s new before shard' shipped' tally' limiter' (popped ++ (place, t.taken) ∷ []) at held
+      → at ≢ place → settings shard' ≡ s → has_ids item ≡ true → TakesAt n place item old new → HoldsBack told asks first s old before shard shipped tally limiter popped at held
+      → (t : TellsItem told asks first before shard' shipped' tally' limiter' item (journal_of popped)) → HoldsBack told asks first s new before shard' shipped' tally' limiter' (popped ++ (place, t.0.taken) ∷ []) at held
   holding_taking place at item held old new shard shard' shipped shipped' tally tally' limiter limiter' popped apart is some takes holds t =
-      let same = journal_one popped place t.taken true (ap has_ids t.item_is ∙ some) in (
-        merged place at item held old new popped t.taken apart t.item_is takes holds.0,
-        subst (λ J. MarksApply s J) (sym same) (subst (λ z. marks_apply z t.taken (journal_of popped) ≡ true) is t.marked, holds.1),
-        subst (λ J. HasDone asks first before shard' shipped' tally' limiter' J) (sym same) t.done,
+      let same = journal_one popped place t.0.taken true (ap has_ids t.0.item_is ∙ some) in (
+        merged place at item held old new popped t.0.taken apart t.0.item_is takes holds.0,
+        subst (λ J. MarksApply s J) (sym same) (subst (λ z. marks_apply z t.0.taken (journal_of popped) ≡ true) is t.0.marked, holds.1),
+        subst (λ J. AreTold told (news s J)) (sym same) (told_both told (news s (journal_of popped)) (news_now s (t.0.taken ∷ journal_of popped)) holds.2 (subst (λ z. AreTold told (news_now z (t.0.taken ∷ journal_of popped))) is t.1)),
+        subst (λ J. HasDone asks first before shard' shipped' tally' limiter' J) (sym same) t.0.done,
       )
 
   -- a span without valid ids was popped of another queue
   pub holding_skipping : (place at : ℕ) (item held : Item) (old new : List (EndState Item)) (shard : Held) (shipped : List Shipment) (tally : TallyState) (limiter : L) (popped : List (ℕ × Entry))
-      → at ≢ place → has_ids item ≡ false → TakesAt n place item old new → HoldsBack asks first s old before shard shipped tally limiter popped at held
-      → HoldsBack asks first s new before shard shipped tally limiter (popped ++ (place, unmarked item) ∷ []) at held
+      → at ≢ place → has_ids item ≡ false → TakesAt n place item old new → HoldsBack told asks first s old before shard shipped tally limiter popped at held
+      → HoldsBack told asks first s new before shard shipped tally limiter (popped ++ (place, unmarked item) ∷ []) at held
   holding_skipping place at item held old new shard shipped tally limiter popped apart none takes holds =
       let same = journal_one popped place (unmarked item) false none in (
         merged place at item held old new popped (unmarked item) apart refl takes holds.0,
         subst (λ J. MarksApply s J) (sym same) holds.1,
-        subst (λ J. HasDone asks first before shard shipped tally limiter J) (sym same) holds.2,
+        subst (λ J. AreTold told (news s J)) (sym same) holds.2,
+        subst (λ J. HasDone asks first before shard shipped tally limiter J) (sym same) holds.3,
       )
+
+  -- what was held back is taken, and behind it one more item that was popped
+  pub taking_both : (place other : ℕ) (item last : Item) (ends new : List (EndState Item)) (shard shard' shard'' : Held) (shipped shipped' shipped'' : List Shipment) (tally tally' tally'' : TallyState) (limiter limiter' limiter'' : L) (popped : List (ℕ × Entry))
+      → settings shard' ≡ s → settings shard'' ≡ s → has_ids item ≡ true → has_ids last ≡ true → TakesAt n other last ends new → HoldsBack told asks first s ends before shard shipped tally limiter popped place item
+      → ((past : Journal) → HasDone asks first before shard shipped tally limiter past → TellsItem told asks first before shard' shipped' tally' limiter' item past)
+      → ((past : Journal) → HasDone asks first before shard' shipped' tally' limiter' past → TellsItem told asks first before shard'' shipped'' tally'' limiter'' last past)
+      → (e : Entry) × (f : Entry) × HasTaken told asks first s new before shard'' shipped'' tally'' limiter'' ((popped ++ (place, e) ∷ []) ++ (other, f) ∷ [])
+  taking_both place other item last ends new shard shard' shard'' shipped shipped' shipped'' tally tally' tally'' limiter limiter' limiter'' popped is is' some some' takes holds first_turn second_turn =
+      let t = first_turn (journal_of popped) holds.3 in
+      let one = releasing place item ends shard shard' shipped shipped' tally tally' limiter limiter' popped is some holds t in
+      let held = popping other last ends new shard' shipped' tally' limiter' (popped ++ (place, t.0.taken) ∷ []) takes one in
+      let u = second_turn (journal_of (popped ++ (place, t.0.taken) ∷ [])) held.3 in
+      (t.0.taken, u.0.taken, releasing other last new shard' shard'' shipped' shipped'' tally' tally'' limiter' limiter'' (popped ++ (place, t.0.taken) ∷ []) is' some' held u)
+
+-- the same by another number of the shard, and other settings, that are the same
+module _ {L : Type 0} (T : ℕ → News → Type 0) (asks : L → ℕ → ℕ → ℕ → Bool → L → Type 0) (first : L) (before : TallyState) (a b : ℕ) (is : a ≡ b) where
+  pub held_as : (s z : Settings) → s ≡ z → (ends : List (EndState Item)) (shard : Held) (shipped : List Shipment) (tally : TallyState) (limiter : L) (popped : List (ℕ × Entry)) (place : ℕ) (item : Item)
+      → HoldsBack (T a) asks first s ends before shard shipped tally limiter popped place item → HoldsBack (T b) asks first z ends before shard shipped tally limiter popped place item
+  held_as s z same ends shard shipped tally limiter popped place item h =
+      subst (λ (m : ℕ). HoldsBack (T m) asks first z ends before shard shipped tally limiter popped place item) is (subst (λ (x : Settings). HoldsBack (T a) asks first x ends before shard shipped tally limiter popped place item) same h)
+
+  pub taken_as : (s z : Settings) → s ≡ z → (ends : List (EndState Item)) (shard : Held) (shipped : List Shipment) (tally : TallyState) (limiter : L) (popped : List (ℕ × Entry))
+      → HasTaken (T a) asks first s ends before shard shipped tally limiter popped → HasTaken (T b) asks first z ends before shard shipped tally limiter popped
+  taken_as s z same ends shard shipped tally limiter popped h =
+      subst (λ (m : ℕ). HasTaken (T m) asks first z ends before shard shipped tally limiter popped) is (subst (λ (x : Settings). HasTaken (T a) asks first x ends before shard shipped tally limiter popped) same h)
+
+  pub tells_as : (shard : Held) (shipped : List Shipment) (tally : TallyState) (limiter : L) (item : Item) (past : Journal) → TellsItem (T a) asks first before shard shipped tally limiter item past → TellsItem (T b) asks first before shard shipped tally limiter item past
+  tells_as shard shipped tally limiter item past t = subst (λ (m : ℕ). TellsItem (T m) asks first before shard shipped tally limiter item past) is t
 
 -- ---- the calls since a tick was popped
 

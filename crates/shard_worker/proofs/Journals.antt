@@ -23,6 +23,7 @@ use Rattle.shard_worker.specs.Asking.{AskedBy}
 use Rattle.released_spans.specs.Shipping.{AreShipped}
 use Rattle.released_spans.proofs.Shipping.{shipped_none}
 use Rattle.shard_worker.specs.Work.{items, HaveIds, with_ids, journal_of, counted_in, ShardWorks, TicksWait}
+use Rattle.shard_worker.specs.News.{News, AreTold, news}
 use Rattle.shard_worker.specs.Turns.{counted_dealt, HasDone, HasTaken}
 
 filter-append : {X : Type 0} (p : X → Bool) (xs ys : List X) → filter p (xs ++ ys) ≡ filter p xs ++ filter p ys
@@ -58,26 +59,28 @@ merged_more n place item old new popped e is takes merge =
     subst (λ l. IsMergeOf new l) (sym (items_more popped place e ∙ ap (λ i. items popped ++ (place, i) ∷ []) is)) (merge_more n place item old new (items popped) takes merge)
 
 -- what the loop keeps of what was popped
-abbrev pub Kept : {L : Type 0} → (asks : L → ℕ → ℕ → ℕ → Bool → L → Type 0) → (first : L) → Settings → List (EndState Item) → TallyState → Held → List Shipment → TallyState → L → List (ℕ × Entry) → Type 0
-Kept asks first s ends before shard shipped tally limiter popped = HasTaken asks first s ends before shard shipped tally limiter popped
+abbrev pub Kept : {L : Type 0} → (told : News → Type 0) → (asks : L → ℕ → ℕ → ℕ → Bool → L → Type 0) → (first : L) → Settings → List (EndState Item) → TallyState → Held → List Shipment → TallyState → L → List (ℕ × Entry) → Type 0
+Kept told asks first s ends before shard shipped tally limiter popped = HasTaken told asks first s ends before shard shipped tally limiter popped
 
 abbrev pub unmarked : Item → Entry
 unmarked item = record { item = item; refused = false; lost = false; answers = [] }
 
 -- a span without valid ids was popped
-pub kept_skipping : {L : Type 0} (asks : L → ℕ → ℕ → ℕ → Bool → L → Type 0) (first : L) (n place : ℕ) (item : Item) (s : Settings) (old new : List (EndState Item)) (before : TallyState) (shard : Held) (shipped : List Shipment) (tally : TallyState) (limiter : L) (popped : List (ℕ × Entry))
-    → has_ids item ≡ false → TakesAt n place item old new → Kept asks first s old before shard shipped tally limiter popped → Kept asks first s new before shard shipped tally limiter (popped ++ (place, unmarked item) ∷ [])
-kept_skipping asks first n place item s old new before shard shipped tally limiter popped none takes kept =
+pub kept_skipping : {L : Type 0} (told : News → Type 0) (asks : L → ℕ → ℕ → ℕ → Bool → L → Type 0) (first : L) (n place : ℕ) (item : Item) (s : Settings) (old new : List (EndState Item)) (before : TallyState) (shard : Held) (shipped : List Shipment) (tally : TallyState) (limiter : L) (popped : List (ℕ × Entry))
+    → has_ids item ≡ false → TakesAt n place item old new → Kept told asks first s old before shard shipped tally limiter popped → Kept told asks first s new before shard shipped tally limiter (popped ++ (place, unmarked item) ∷ [])
+kept_skipping told asks first n place item s old new before shard shipped tally limiter popped none takes kept =
     let same = journal_one popped place (unmarked item) false none in (
       merged_more n place item old new popped (unmarked item) refl takes kept.0,
       subst (λ J. MarksApply s J) (sym same) kept.1,
-      subst (λ J. HasDone asks first before shard shipped tally limiter J) (sym same) kept.2,
+      subst (λ J. AreTold told (news s J)) (sym same) kept.2,
+      subst (λ J. HasDone asks first before shard shipped tally limiter J) (sym same) kept.3,
     )
 
 -- nothing was popped
-pub kept_none : {L : Type 0} (asks : L → ℕ → ℕ → ℕ → Bool → L → Type 0) (first : L) (s : Settings) (ends : List (EndState Item)) (shard : Held) (shipped : List Shipment) (tally : TallyState) → IsMergeOf ends [] → StandsFor shard [] 0 → shipped ≡ [] → Kept asks first s ends tally shard shipped tally first []
-kept_none asks first s ends shard shipped tally merge stands none = (
+pub kept_none : {L : Type 0} (told : News → Type 0) (asks : L → ℕ → ℕ → ℕ → Bool → L → Type 0) (first : L) (s : Settings) (ends : List (EndState Item)) (shard : Held) (shipped : List Shipment) (tally : TallyState) → IsMergeOf ends [] → StandsFor shard [] 0 → shipped ≡ [] → Kept told asks first s ends tally shard shipped tally first []
+kept_none told asks first s ends shard shipped tally merge stands none = (
   merge,
+  tt,
   tt,
   record { dealt = 0; all_dealt = refl; answered = tt; at = record { stands = stands; shipped_is = subst (λ (z : List Shipment). AreShipped z []) (sym none) shipped_none; counted = tallies_none (counted_dealt (settings shard) [] 0) tally nothing; asked = refl } },
 ) where
@@ -108,12 +111,12 @@ pub have_all_ended : (s : Settings) (shard : Held) (J : Journal) (dealt : ℕ) �
 have_all_ended s shard J dealt is stands finished = sym (all_ended J s.senders) ∙ ap (λ z. list_all (λ b. b) (ends J z.senders)) (sym is) ∙ sym (ap (λ (st : Standing). list_all (λ b. b) st.ends) stands.1) ∙ finished
 
 -- the last End was taken
-pub works : {L : Type 0} (asks : L → ℕ → ℕ → ℕ → Bool → L → Type 0) (first : L) (capacity number : ℕ) (s : Settings) (shard : Held) (receiver : ReceiverState Item) (items_shipped : List Shipment) (sender : EndState Shipment) (before tally : TallyState) (limiter : L) (popped : List (ℕ × Entry))
-    → settings shard ≡ s → is_finished shard ≡ true → sender.items ≡ items_shipped ++ End number ∷ [] → TicksWait capacity (length receiver.ends) s.senders popped receiver.calls → Kept asks first s receiver.ends before shard items_shipped tally limiter popped
+pub works : {L : Type 0} (told : News → Type 0) (asks : L → ℕ → ℕ → ℕ → Bool → L → Type 0) (first : L) (capacity number : ℕ) (s : Settings) (shard : Held) (receiver : ReceiverState Item) (items_shipped : List Shipment) (sender : EndState Shipment) (before tally : TallyState) (limiter : L) (popped : List (ℕ × Entry))
+    → settings shard ≡ s → is_finished shard ≡ true → sender.items ≡ items_shipped ++ End number ∷ [] → TicksWait capacity (length receiver.ends) s.senders popped receiver.calls → Kept told asks first s receiver.ends before shard items_shipped tally limiter popped
     → ShardWorks asks capacity number s shard receiver sender before tally first limiter popped
-works asks first capacity number s shard receiver items_shipped sender before tally limiter popped is finished shipped wait kept =
+works told asks first capacity number s shard receiver items_shipped sender before tally limiter popped is finished shipped wait kept =
     let J = journal_of popped in
-    let done = kept.2 in
+    let done = kept.3 in
     let same : effect_dealt s J done.dealt ≡ effect s J = subst (λ z. effect_dealt z J done.dealt ≡ effect z J) is done.all_dealt in
     record {
       of_queues = kept.0;
@@ -128,16 +131,16 @@ works asks first capacity number s shard receiver items_shipped sender before ta
       shipped = (items_shipped, shipped, subst (AreShipped items_shipped) (ap (λ z. (effect_dealt z J done.dealt).released) is ∙ ap (λ (e : Effect). e.released) same) done.at.shipped_is);
       counted = tallies_same (counted_dealt s J done.dealt) (counted_in s J) before tally (λ count. sym (counts count)) (subst (λ z. Tallies (counted_dealt z J done.dealt) before tally) is done.at.counted);
     } where
-      counts : (count : Count) → counted_dealt s (journal_of popped) kept.2.dealt count ≡ counted_in s (journal_of popped) count
+      counts : (count : Count) → counted_dealt s (journal_of popped) kept.3.dealt count ≡ counted_in s (journal_of popped) count
       counts Received = refl
       counts Handed = refl
-      counts (Dropped reason) = ap (λ (e : Effect). length (under reason e.counted)) (subst (λ z. effect_dealt z (journal_of popped) kept.2.dealt ≡ effect z (journal_of popped)) is kept.2.all_dealt)
+      counts (Dropped reason) = ap (λ (e : Effect). length (under reason e.counted)) (subst (λ z. effect_dealt z (journal_of popped) kept.3.dealt ≡ effect z (journal_of popped)) is kept.3.all_dealt)
 
 -- the same of the values that were given back
-pub works_ended : {L : Type 0} (asks : L → ℕ → ℕ → ℕ → Bool → L → Type 0) (first : L) (capacity number turns_number : ℕ) (s : Settings) (shard shard' : Held) (receiver receiver' : ReceiverState Item) (sender sender' : EndState Shipment) (before tally tally' : TallyState) (limiter limiter' : L) (popped : List (ℕ × Entry))
+pub works_ended : {L : Type 0} (told : News → Type 0) (asks : L → ℕ → ℕ → ℕ → Bool → L → Type 0) (first : L) (capacity number turns_number : ℕ) (s : Settings) (shard shard' : Held) (receiver receiver' : ReceiverState Item) (sender sender' : EndState Shipment) (before tally tally' : TallyState) (limiter limiter' : L) (popped : List (ℕ × Entry))
     → settings shard ≡ s → is_finished shard ≡ true → turns_number ≡ number → sender' ≡ with_item sender (End turns_number) → shard' ≡ shard → limiter' ≡ limiter → receiver' ≡ receiver → tally' ≡ tally
-    → TicksWait capacity (length receiver.ends) s.senders popped receiver.calls → Kept asks first s receiver.ends before shard sender.items tally limiter popped → ShardWorks asks capacity number s shard' receiver' sender' before tally' first limiter' popped
-works_ended {L} asks first capacity number turns_number s shard shard' receiver receiver' sender sender' before tally tally' limiter limiter' popped is finished numbers shipped same_shard same_limiter same_receiver same_tally wait kept =
+    → TicksWait capacity (length receiver.ends) s.senders popped receiver.calls → Kept told asks first s receiver.ends before shard sender.items tally limiter popped → ShardWorks asks capacity number s shard' receiver' sender' before tally' first limiter' popped
+works_ended {L} told asks first capacity number turns_number s shard shard' receiver receiver' sender sender' before tally tally' limiter limiter' popped is finished numbers shipped same_shard same_limiter same_receiver same_tally wait kept =
     let P : Held → ReceiverState Item → TallyState → L → Type 0 = λ h r t l. ShardWorks asks capacity number s h r sender' before t first l popped in
-    let here = works asks first capacity number s shard receiver sender.items sender' before tally limiter popped is finished (ap (λ (e : EndState Shipment). e.items) shipped ∙ ap (λ n. sender.items ++ End n ∷ []) numbers) wait kept in
+    let here = works told asks first capacity number s shard receiver sender.items sender' before tally limiter popped is finished (ap (λ (e : EndState Shipment). e.items) shipped ∙ ap (λ n. sender.items ++ End n ∷ []) numbers) wait kept in
     subst (λ h. P h receiver' tally' limiter') (sym same_shard) (subst (λ r. P shard r tally' limiter') (sym same_receiver) (subst (λ t. P shard receiver t limiter') (sym same_tally) (subst (λ l. P shard receiver tally l) (sym same_limiter) here)))

@@ -12,6 +12,7 @@ ghost use Rattle.journal_theory.specs.Journal.{Entry, has_ids};
 ghost use Rattle.shard_core.specs.Held.{has_due, is_finished, settings};
 ghost use Rattle.shard_core.specs.Taking.{ends_after};
 ghost use Rattle.shard_worker.specs.Work.{Round, calls_in, taken_in, IsBehind, IsRound};
+ghost use Rattle.shard_worker.specs.News.{IsTold};
 ghost use Rattle.shard_worker.specs.Turns.{AreAt, HasTaken, HoldsBack, IsCalled, IsOf};
 
 use crate::turn::Turns;
@@ -58,10 +59,10 @@ pub fn take_item<
     requires ids { has_ids item ≡ true }
     requires nodes { knows (RateLimits.has_node turns.old.limiter) (limiters (meaning turns.old.shard.policies)) ≡ true }
     ensures takes { (first : _) (before : TallyState) (earlier : List (ℕ × Entry)) (past : List Call) (place : ℕ) → receiver.old.next ≡ place + 1 → receiver.old.calls ≡ past ++ Call.Popped place ∷ []
-        → HoldsBack RateLimits.asks first (settings turns.old.shard) receiver.old.ends before turns.old.shard turns.old.desk.sender.items turns.old.desk.tally turns.old.limiter earlier place item
+        → HoldsBack (IsTold Observer.unheard Observer.told_decided Observer.told_evicted Observer.told_late observer.now turns.old.number) RateLimits.asks first (settings turns.old.shard) receiver.old.ends before turns.old.shard turns.old.desk.sender.items turns.old.desk.tally turns.old.limiter earlier place item
         → (round : Round) × IsRound QueueRoom.capacity (length receiver.old.ends) (settings turns.old.shard).senders earlier round
         × (receiver.new.calls ≡ past ++ calls_in round)
-        × HasTaken RateLimits.asks first (settings turns.old.shard) receiver.new.ends before turns.new.shard turns.new.desk.sender.items turns.new.desk.tally turns.new.limiter (earlier ++ taken_in round) }
+        × HasTaken (IsTold Observer.unheard Observer.told_decided Observer.told_evicted Observer.told_late observer.now turns.old.number) RateLimits.asks first (settings turns.old.shard) receiver.new.ends before turns.new.shard turns.new.desk.sender.items turns.new.desk.tally turns.new.limiter (earlier ++ taken_in round) }
     ensures nothing_due { has_due turns.new.shard ≡ false }
     ensures finished { result ≡ is_finished turns.new.shard }
     ensures settings { settings turns.new.shard ≡ settings turns.old.shard }
@@ -99,10 +100,10 @@ fn take_tick<
     requires running { is_finished turns.old.shard ≡ false }
     requires nodes { knows (RateLimits.has_node turns.old.limiter) (limiters (meaning turns.old.shard.policies)) ≡ true }
     ensures takes { (first : _) (before : TallyState) (earlier : List (ℕ × Entry)) (past : List Call) (place : ℕ) → receiver.old.next ≡ place + 1 → receiver.old.calls ≡ past ++ Call.Popped place ∷ []
-        → HoldsBack RateLimits.asks first (settings turns.old.shard) receiver.old.ends before turns.old.shard turns.old.desk.sender.items turns.old.desk.tally turns.old.limiter earlier place (Item.Tick moment)
+        → HoldsBack (IsTold Observer.unheard Observer.told_decided Observer.told_evicted Observer.told_late observer.now turns.old.number) RateLimits.asks first (settings turns.old.shard) receiver.old.ends before turns.old.shard turns.old.desk.sender.items turns.old.desk.tally turns.old.limiter earlier place (Item.Tick moment)
         → (round : Round) × IsRound QueueRoom.capacity (length receiver.old.ends) (settings turns.old.shard).senders earlier round
         × (receiver.new.calls ≡ past ++ calls_in round)
-        × HasTaken RateLimits.asks first (settings turns.old.shard) receiver.new.ends before turns.new.shard turns.new.desk.sender.items turns.new.desk.tally turns.new.limiter (earlier ++ taken_in round) }
+        × HasTaken (IsTold Observer.unheard Observer.told_decided Observer.told_evicted Observer.told_late observer.now turns.old.number) RateLimits.asks first (settings turns.old.shard) receiver.new.ends before turns.new.shard turns.new.desk.sender.items turns.new.desk.tally turns.new.limiter (earlier ++ taken_in round) }
     ensures nothing_due { has_due turns.new.shard ≡ false }
     ensures finished { result ≡ is_finished turns.new.shard }
     ensures settings { settings turns.new.shard ≡ settings turns.old.shard }
@@ -148,12 +149,12 @@ fn drain<
     requires running { is_finished turns.old.shard ≡ false }
     requires nodes { knows (RateLimits.has_node turns.old.limiter) (limiters (meaning turns.old.shard.policies)) ≡ true }
     ensures takes { (first : _) (before : TallyState) (earlier : List (ℕ × Entry)) (at : ℕ) (held : Item) → at ≢ place
-        → HoldsBack RateLimits.asks first (settings turns.old.shard) receiver.old.ends before turns.old.shard turns.old.desk.sender.items turns.old.desk.tally turns.old.limiter earlier at held
+        → HoldsBack (IsTold Observer.unheard Observer.told_decided Observer.told_evicted Observer.told_late observer.now turns.old.number) RateLimits.asks first (settings turns.old.shard) receiver.old.ends before turns.old.shard turns.old.desk.sender.items turns.old.desk.tally turns.old.limiter earlier at held
         → (drained : List (ℕ × Entry)) × (calls : List Call) × IsOf place drained × AreAt place calls × MatchOption result
         (IsCalled receiver.old.calls receiver.new.calls drained calls × IsBehind QueueRoom.capacity earlier drained calls place
-        × HoldsBack RateLimits.asks first (settings turns.old.shard) receiver.new.ends before turns.new.shard turns.new.desk.sender.items turns.new.desk.tally turns.new.limiter (earlier ++ drained) at held)
+        × HoldsBack (IsTold Observer.unheard Observer.told_decided Observer.told_evicted Observer.told_late observer.now turns.old.number) RateLimits.asks first (settings turns.old.shard) receiver.new.ends before turns.new.shard turns.new.desk.sender.items turns.new.desk.tally turns.new.limiter (earlier ++ drained) at held)
         (λ last. (ends : List (EndState Item)) × TakesAt QueueRoom.capacity place last ends receiver.new.ends
-        × HoldsBack RateLimits.asks first (settings turns.old.shard) ends before turns.new.shard turns.new.desk.sender.items turns.new.desk.tally turns.new.limiter (earlier ++ drained) at held
+        × HoldsBack (IsTold Observer.unheard Observer.told_decided Observer.told_evicted Observer.told_late observer.now turns.old.number) RateLimits.asks first (settings turns.old.shard) ends before turns.new.shard turns.new.desk.sender.items turns.new.desk.tally turns.new.limiter (earlier ++ drained) at held
         × (between : List Call) × IsCalled receiver.old.calls between drained calls × (receiver.new.calls ≡ between ++ Call.Popped place ∷ [])) }
     ensures last { IfSome result (λ last. (has_ids last ≡ true) × (list_all (λ b. b) (ends_after last turns.new.shard.standing.ends) ≡ true)) }
     ensures nothing_due { has_due turns.new.shard ≡ false }

@@ -1,12 +1,21 @@
-//! What a shard tells those who look at it while it runs. No contract rests on it.
-use decision_line::LateSpans;
+//! What a shard tells those who look at it while it runs: of each decision, of traces that leave undecided and of late
+//! spans just what its journal has of them; how much it holds by no contract.
+ghost use Rattle.std.specs.Prelude.{◌≡◌, ◌⊎◌, ℕ, drop, map, IfSome};
+ghost use Rattle.decision_line.specs.declared.decision.DecidedTrace.{DecidedTrace as DecidedTraceOf};
+ghost use Rattle.journal_theory.specs.Journal.{Journal, due_now};
+ghost use Rattle.shard_core.specs.Held.{StandsFor, settings};
+ghost use Rattle.shard_core.specs.Telling.{next_told, said_by, told_decision};
+ghost use Rattle.shard_core.specs.declared.answer.DueTrace.{DueTrace as DueTraceOf};
+ghost use Rattle.shard_worker.specs.News.{AreTold, IsTold, answer_news, evicted_news, late_news, trace_of};
+
+use decision_line::{EvictedTrace, LateSpans};
 use lane_queue::{Brake, Receiver, Room};
 use otlp_types::{Item, Span};
 use shard_core::{
     Decided, Decision, DueTrace, Shard, Taken, told_answers, told_decision, told_evicted,
     verdict_of_late,
 };
-use span_ids::{Moment, TraceId};
+use span_ids::{Moment, TraceId, Verdict};
 use std::sync::Wait;
 use thread_watch::{MOST_ASKED, ShardLoad, Watcher};
 
@@ -52,23 +61,66 @@ pub fn tell_taken<W: Watcher>(watcher: &W, taken: &Taken) {
     }
 }
 
-/// Tells of a trace that left the full buffer undecided, at this moment of the shard's clock, and of a span of this trace
-/// that came late.
+/// The trace of an item, if it is a span.
+pub fn trace_of(item: &Item) -> Option<TraceId>
+    ensures { result ≡ trace_of item.now }
+{
+    let Item::Span(arrival) = item else {
+        return None;
+    };
+    match arrival.rec.span.get().ids {
+        Some(ids) => Some(ids.trace),
+        None => None,
+    }
+}
+
+/// Tells of a trace that left the full buffer undecided, at this moment of the clock of this shard, and of a span of this
+/// trace that came late.
 pub fn tell_fates<W: Watcher, R: Wait>(
     rt: &R,
     watcher: &W,
+    shard: u16,
     trace: Option<TraceId>,
     taken: &Taken,
     moment: Moment,
-) {
-    // So nothing is looked at where nobody hears.
+)
+    ensures { AreTold (IsTold W.unheard W.told_decided W.told_evicted W.told_late watcher.now shard) (answer_news trace moment taken.now) }
+{
     let Some(trace) = trace else {
         return;
     };
-    if let Some(evicted) = told_evicted(taken, moment) {
+    tell_evicted(rt, watcher, shard, told_evicted(taken, moment));
+    tell_late(rt, watcher, shard, trace, moment, verdict_of_late(taken));
+}
+
+/// Tells of a trace that left the full buffer undecided, if one did and it is to be told.
+fn tell_evicted<W: Watcher, R: Wait>(rt: &R, watcher: &W, shard: u16, evicted: Option<EvictedTrace>)
+    ensures { AreTold (IsTold W.unheard W.told_decided W.told_evicted W.told_late watcher.now shard) (evicted_news evicted) }
+{
+    // Asked only here: so nobody is asked of the many items by which no trace leaves.
+    let Some(evicted) = evicted else {
+        return;
+    };
+    if watcher.hears_decisions(shard, evicted.moment) {
         watcher.trace_evicted(rt, &evicted);
     }
-    if let Some(verdict) = verdict_of_late(taken) {
+}
+
+/// Tells of a span of this trace that came late, if it did, by the verdict that it met, and is to be told.
+fn tell_late<W: Watcher, R: Wait>(
+    rt: &R,
+    watcher: &W,
+    shard: u16,
+    trace: TraceId,
+    moment: Moment,
+    verdict: Option<Verdict>,
+)
+    ensures { AreTold (IsTold W.unheard W.told_decided W.told_evicted W.told_late watcher.now shard) (late_news trace moment verdict) }
+{
+    let Some(verdict) = verdict else {
+        return;
+    };
+    if watcher.hears_decisions(shard, moment) {
         let late = LateSpans {
             trace,
             moment,
@@ -79,15 +131,17 @@ pub fn tell_fates<W: Watcher, R: Wait>(
     }
 }
 
-/// The trace of an item, if it is a span and what becomes of it is to be told.
-pub fn heard_trace<W: Watcher>(watcher: &W, item: &Item) -> Option<TraceId> {
-    let Item::Span(arrival) = item else {
-        return None;
-    };
-    if !watcher.hears_decisions() {
-        return None;
+/// The trace that is decided next, if one is due and decisions are to be told.
+pub fn next_told<W: Watcher>(watcher: &W, number: u16, shard: &mut Shard) -> Option<DueTrace>
+    ensures same { shard.new ≡ shard.old }
+    ensures told { W.unheard watcher.now number shard.old.standing.clock
+        ⊎ ((past : Journal) (dealt : ℕ) → StandsFor shard.old past dealt → result ≡ next_told (settings shard.old) past (drop dealt (due_now (settings shard.old) past))) }
+{
+    if watcher.hears_decisions(number, shard.clock()) {
+        shard.next_due()
+    } else {
+        None
     }
-    Some(arrival.rec.span.get().ids?.trace)
 }
 
 /// Tells of a decision, and of the policy that decided; and of the trace and what each policy said of it, where that is
@@ -97,7 +151,9 @@ pub fn tell_decided<W: Watcher, R: Wait>(
     watcher: &W,
     decision: &Decision,
     due: Option<DueTrace>,
-) {
+)
+    ensures { IfSome due (λ (d : DueTraceOf). IfSome (told_decision decision.now.decided decision.now.decider d) (λ (t : DecidedTraceOf). W.told_decided watcher.now t (map said_by decision.now.answers.items))) }
+{
     let is_sampled = match &decision.decided {
         Decided::Release(_) => true,
         Decided::Dropped(_) => false,

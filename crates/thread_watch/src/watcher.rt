@@ -1,7 +1,13 @@
 //! What threads count and hold, told while they run.
+ghost use Rattle.std.specs.Prelude.{◌≡◌, ℕ, List, false, ⊤};
+ghost use Rattle.decision_line.specs.declared.decision.DecidedTrace.{DecidedTrace as DecidedTraceOf};
+ghost use Rattle.decision_line.specs.declared.decision.EvictedTrace.{EvictedTrace as EvictedTraceOf};
+ghost use Rattle.decision_line.specs.declared.decision.LateSpans.{LateSpans as LateSpansOf};
+ghost use Rattle.decision_line.specs.declared.decision.Said.{Said as SaidOf};
+
 use crate::barrier::Barrier;
 use decision_line::{DecidedTrace, EvictedTrace, LateSpans, Said, TraceHeld};
-use span_ids::{SpanId, TraceId};
+use span_ids::{Moment, SpanId, TraceId};
 use std::sync::Wait;
 
 /// At most so many traces are asked for at the same time.
@@ -36,19 +42,34 @@ pub trait Watcher {
     /// A shard has decided a trace, as sampled or not, by the policy at this place, from 0 on, if one decided.
     fn decided(&self, _decider: Option<usize>, _is_sampled: bool) {}
 
-    /// Whether each decided and each evicted trace, and late spans, are to be told.
-    fn hears_decisions(&self) -> bool {
-        false
-    }
+    /// This shard was answered, at this moment of its clock, that what becomes of traces isn't to be told.
+    ghost unheard: { Self → (shard moment : ℕ) → Type 0 };
+
+    /// It was told that this trace was decided, and that the policies said this of it.
+    ghost told_decided: { Self → DecidedTraceOf → List SaidOf → Type 0 };
+
+    /// It was told that this trace left the full buffer undecided.
+    ghost told_evicted: { Self → EvictedTraceOf → Type 0 };
+
+    /// It was told of these late spans.
+    ghost told_late: { Self → LateSpansOf → Type 0 };
+
+    /// Whether each decided and each evicted trace, and late spans, are to be told: what this shard asks at this moment
+    /// of its clock.
+    fn hears_decisions(&self, shard: u16, moment: Moment) -> bool
+        ensures { result ≡ false → unheard self.now shard moment };
 
     /// A shard has decided a trace, of which the policies said this, in order, as far as they were asked.
-    fn trace_decided<R: Wait>(&self, _rt: &R, _decision: &DecidedTrace, _said: &[Said]) {}
+    fn trace_decided<R: Wait>(&self, rt: &R, decision: &DecidedTrace, said: &[Said])
+        ensures { told_decided self.now decision.now said.now };
 
     /// A trace has left the full buffer undecided.
-    fn trace_evicted<R: Wait>(&self, _rt: &R, _evicted: &EvictedTrace) {}
+    fn trace_evicted<R: Wait>(&self, rt: &R, evicted: &EvictedTrace)
+        ensures { told_evicted self.now evicted.now };
 
     /// A shard has taken late spans.
-    fn spans_late<R: Wait>(&self, _rt: &R, _late: &LateSpans) {}
+    fn spans_late<R: Wait>(&self, rt: &R, late: &LateSpans)
+        ensures { told_late self.now late.now };
 
     /// Whether somebody asks what shards hold of a trace.
     fn asks_for_traces(&self) -> bool {
@@ -79,4 +100,22 @@ pub struct Unwatched;
 
 impl Barrier for Unwatched {}
 
-impl Watcher for Unwatched {}
+impl Watcher for Unwatched {
+    ghost unheard = { λ _ _ _. ⊤ };
+
+    ghost told_decided = { λ _ _ _. ⊤ };
+
+    ghost told_evicted = { λ _ _. ⊤ };
+
+    ghost told_late = { λ _ _. ⊤ };
+
+    fn hears_decisions(&self, _shard: u16, _moment: Moment) -> bool {
+        false
+    }
+
+    fn trace_decided<R: Wait>(&self, _rt: &R, _decision: &DecidedTrace, _said: &[Said]) {}
+
+    fn trace_evicted<R: Wait>(&self, _rt: &R, _evicted: &EvictedTrace) {}
+
+    fn spans_late<R: Wait>(&self, _rt: &R, _late: &LateSpans) {}
+}

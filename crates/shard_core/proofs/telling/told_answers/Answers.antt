@@ -1,6 +1,6 @@
 -- There is room for what each policy said.
 -- For the call of `push` in `told_answers`.
-use Rattle.std.proofs.Common.{◌≡◌, ◌∙◌, map, take, ℕ, List, length, ap, arith}
+use Rattle.std.proofs.Common.{◌≡◌, ◌∙◌, take, length, ap, arith}
 use Rattle.std.proofs.lemmas.List.{length-map, length-take-le}
 use Rattle.shard_core.specs.Telling.{said_by}
 use Rattle.shard_core.proofs.telling.told_answers.Goals as goal

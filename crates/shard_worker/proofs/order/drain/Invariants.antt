@@ -10,6 +10,7 @@ use Rattle.policy_eval.specs.Meaning.{knows}
 use Rattle.journal_theory.specs.Journal.{Entry}
 use Rattle.shard_core.specs.Held.{has_due, is_finished, settings}
 use Rattle.shard_worker.specs.Work.{items}
+use Rattle.shard_worker.specs.News.{IsTold}
 use Rattle.shard_worker.specs.Turns.{HoldsBack, IsCalled, AreAt, IsOf}
 use Rattle.shard_worker.proofs.order.drain.Given as goal
 
@@ -19,6 +20,6 @@ invariant-loop g l = (has_due l.turns.shard ≡ false) × (is_finished l.turns.s
     × (knows (g.RateLimits.Limiter.has_node l.turns.limiter) (limiters (meaning l.turns.shard.policies)) ≡ true)
     × ((node : ℕ) → g.RateLimits.Limiter.has_node l.turns.limiter node ≡ g.RateLimits.Limiter.has_node l.fn.turns.limiter node)
     × ((first : g.row.RateLimits.Denot) (before : TallyState) (earlier : List (ℕ × Entry)) (at : ℕ) (held : Item) → at ≢ l.place
-    → HoldsBack g.RateLimits.Limiter.asks first (settings l.fn.turns.shard) l.fn.receiver.ends before l.fn.turns.shard l.fn.turns.desk.sender.items l.fn.turns.desk.tally l.fn.turns.limiter earlier at held
+    → HoldsBack (IsTold g.Observer.Watcher.unheard g.Observer.Watcher.told_decided g.Observer.Watcher.told_evicted g.Observer.Watcher.told_late l.observer l.fn.turns.number) g.RateLimits.Limiter.asks first (settings l.fn.turns.shard) l.fn.receiver.ends before l.fn.turns.shard l.fn.turns.desk.sender.items l.fn.turns.desk.tally l.fn.turns.limiter earlier at held
     → (drained : List (ℕ × Entry)) × (calls : List Call) × IsOf l.place drained × AreAt l.place calls × IsCalled l.fn.receiver.calls l.receiver.calls drained calls × (length (of l.place (items drained)) ≡ l.counter)
-    × HoldsBack g.RateLimits.Limiter.asks first (settings l.fn.turns.shard) l.receiver.ends before l.turns.shard l.turns.desk.sender.items l.turns.desk.tally l.turns.limiter (earlier ++ drained) at held)
+    × HoldsBack (IsTold g.Observer.Watcher.unheard g.Observer.Watcher.told_decided g.Observer.Watcher.told_evicted g.Observer.Watcher.told_late l.observer l.fn.turns.number) g.RateLimits.Limiter.asks first (settings l.fn.turns.shard) l.receiver.ends before l.turns.shard l.turns.desk.sender.items l.turns.desk.tally l.turns.limiter (earlier ++ drained) at held)

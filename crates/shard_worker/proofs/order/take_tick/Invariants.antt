@@ -10,6 +10,7 @@ use Rattle.policy_eval.specs.Meaning.{knows}
 use Rattle.journal_theory.specs.Journal.{Entry}
 use Rattle.shard_core.specs.Held.{has_due, is_finished, settings}
 use Rattle.shard_worker.specs.Work.{items, IsBehind}
+use Rattle.shard_worker.specs.News.{IsTold}
 use Rattle.shard_worker.specs.Turns.{HoldsBack, IsCalled}
 use Rattle.shard_worker.proofs.order.take_tick.Given as goal
 
@@ -19,7 +20,7 @@ invariant-loop-other g l = (has_due l.turns.shard ≡ false) × (is_finished l.t
     × (knows (g.RateLimits.Limiter.has_node l.turns.limiter) (limiters (meaning l.turns.shard.policies)) ≡ true)
     × ((node : ℕ) → g.RateLimits.Limiter.has_node l.turns.limiter node ≡ g.RateLimits.Limiter.has_node l.fn.turns.limiter node)
     × ((first : g.row.RateLimits.Denot) (before : TallyState) (earlier : List (ℕ × Entry)) →
-    HoldsBack g.RateLimits.Limiter.asks first (settings l.fn.turns.shard) l.fn.receiver.ends before l.fn.turns.shard l.fn.turns.desk.sender.items l.fn.turns.desk.tally l.fn.turns.limiter earlier l.place (Tick l.moment)
+    HoldsBack (IsTold g.Observer.Watcher.unheard g.Observer.Watcher.told_decided g.Observer.Watcher.told_evicted g.Observer.Watcher.told_late l.observer l.fn.turns.number) g.RateLimits.Limiter.asks first (settings l.fn.turns.shard) l.fn.receiver.ends before l.fn.turns.shard l.fn.turns.desk.sender.items l.fn.turns.desk.tally l.fn.turns.limiter earlier l.place (Tick l.moment)
     → (drained : List (ℕ × Entry)) × (calls : List Call) × (of l.place (items drained) ≡ []) × IsCalled l.fn.receiver.calls l.receiver.calls drained calls
     × ((k : ℕ) → k < l.other → k ≢ l.place → IsBehind g.QueueRoom.Room.capacity earlier drained calls k)
-    × HoldsBack g.RateLimits.Limiter.asks first (settings l.fn.turns.shard) l.receiver.ends before l.turns.shard l.turns.desk.sender.items l.turns.desk.tally l.turns.limiter (earlier ++ drained) l.place (Tick l.moment))
+    × HoldsBack (IsTold g.Observer.Watcher.unheard g.Observer.Watcher.told_decided g.Observer.Watcher.told_evicted g.Observer.Watcher.told_late l.observer l.fn.turns.number) g.RateLimits.Limiter.asks first (settings l.fn.turns.shard) l.receiver.ends before l.turns.shard l.turns.desk.sender.items l.turns.desk.tally l.turns.limiter (earlier ++ drained) l.place (Tick l.moment))

@@ -1,4 +1,4 @@
-use Rattle.std.proofs.Common.{◌≡◌, ℕ, ◌/◌, ◌<◌, false, true, Some, None, [], List, option_map, length, sym, ap, subst, ◌∙◌, inr}
+use Rattle.std.proofs.Common.{◌≡◌, ℕ, ◌<◌, false, Some, None, [], List, option_map, sym, ap, subst, ◌∙◌, inr}
 use Rattle.std.specs.List.{find}
 use Rattle.policy_tree.specs.Meaning.{meaning}
 use Rattle.policy_eval.specs.Given.{verdict_given}

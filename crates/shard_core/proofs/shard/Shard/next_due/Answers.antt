@@ -1,12 +1,14 @@
 -- What is told of the trace that is decided next.
--- For the clause `due` of `Shard::next_due`.
-use Rattle.std.proofs.Common.{◌≡◌, ℕ, Some, None, option_map, refl, sym, ap, subst, ◌∙◌}
+-- For the clauses of `Shard::next_due`.
+use Rattle.std.proofs.Common.{◌≡◌, ℕ, drop, Some, None, option_map, sym, ap, subst, ◌∙◌}
 use Rattle.std.specs.List.{find}
 use Rattle.std.specs.Option.{option_copied}
 use Rattle.trace_buffer.specs.Buffer.{is_due_at}
-use Rattle.shard_core.specs.Held.{Held, is_finished, due_by}
-use Rattle.shard_core.specs.Telling.{cause_of, told_of, due_trace}
+use Rattle.journal_theory.specs.Journal.{due_now}
+use Rattle.shard_core.specs.Held.{Held, StandsFor, settings, is_finished, due_by}
+use Rattle.shard_core.specs.Telling.{cause_of, told_of, due_trace, next_told}
 use Rattle.shard_core.specs.contracts.shard.Shard.{the_view}
+use Rattle.shard_core.proofs.DueTold.{next_due_told}
 use Rattle.shard_core.proofs.shard.Shard.next_due.Goals as goal
 use Rattle.shard_core.proofs.shard.Shard.next_due.Goals.{in-Some, in-None}
 
@@ -30,3 +32,10 @@ returns-clause-due c =
           let none = subst F by (sym c.next_due.ensures ∙ ap option_copied w.in-None.is) in
           w.result-is ∙ sym (ap (option_map (told_of h)) none)
     ])
+
+pub returns-clause-told : goal.returns-clause-told
+returns-clause-told c = λ past dealt s.
+    let h = the_view c.self.inside in
+    let is = c.self.view_is ∙ c.search.ensures in
+    let P = λ (x : Held). StandsFor x past dealt → due_trace x ≡ next_told (settings x) past (drop dealt (due_now (settings x) past)) in
+    returns-clause-due c ∙ subst P is (next_due_told h c.self.invariant.0 c.self.invariant.1 c.self.invariant.3 past dealt) s
