@@ -1,11 +1,11 @@
 -- What stands at the front of some bytes, by its tag.
 -- For front.rt.
-use Rattle.std.proofs.Common.{◌≡◌, ℕ, ◌+◌, ◌-◌, ◌*◌, ◌/◌, ◌%◌, ◌^◌, ◌<◌, ◌≤◌, List, [], ◌∷◌, length, drop, get_or, Bool, true, false, cond, None, Result, Ok, Err, refl, sym, ◌∙◌, ap, subst, arith, lit<}
+use Rattle.std.proofs.Common.{◌≡◌, ℕ, ◌+◌, ◌-◌, ◌*◌, ◌/◌, ◌%◌, ◌^◌, ◌<◌, ◌≤◌, List, [], ◌∷◌, length, get_or, Bool, true, false, cond, None, Result, Ok, Err, refl, sym, ◌∙◌, ap, subst, arith}
 use Rattle.std.specs.Prelude.{◌==◌, nat_lt, ◌||◌}
 use Rattle.std.proofs.lemmas.Bool.Decides.{nat_tests}
 use Rattle.protobuf_wire.specs.declared.fault.WireFault.{WireFault}
 use Rattle.protobuf_wire.specs.declared.fault.WireFault.TheVariants as faults
-use Rattle.protobuf_wire.specs.Wire.{Value, Field, Reading, ◌>>=◌, number, base128, varint, fixed64, bytes, fixed, behind_count, held, value_of, field_of, next_field, fields_of}
+use Rattle.protobuf_wire.specs.Wire.{Value, Field, Reading, ◌>>=◌, number, base128, varint, fixed64, bytes, fixed, behind_count, held, value_of, field_of, next_field}
 use Rattle.protobuf_wire.proofs.Shorter.{Below, next_below}
 use Rattle.protobuf_wire.proofs.Steps.{first_fault, no_field}
 use Rattle.message_cursor.specs.Walk.{first_field, after}

@@ -6,7 +6,7 @@ use Rattle.std.specs.Borrow.{Bor}
 use Rattle.std.proofs.lemmas.Bool.Decides.{nat_tests}
 use Rattle.protobuf_wire.specs.declared.fault.WireFault.{WireFault}
 use Rattle.protobuf_wire.specs.declared.field.WireValue.{WireValue}
-use Rattle.protobuf_wire.specs.Wire.{Value, Field, bytes, ◌>>=◌, next_field, fields_of}
+use Rattle.protobuf_wire.specs.Wire.{Value, Field, bytes, ◌>>=◌, fields_of}
 use Rattle.protobuf_wire.specs.Seen.{seen}
 use Rattle.protobuf_wire.proofs.Steps.{first_field as first_and_rest}
 use Rattle.message_cursor.specs.Walk.{first_field, after, messages, bytes_in, NextMessage, Asked}
