@@ -1,12 +1,13 @@
-//! What a span's message holds beside its lists.
+//! What a span's message holds, by one walk over it.
 ghost use Rattle.std.specs.Prelude.{◌≡◌};
 ghost use Rattle.otlp_protobuf.specs.Kinds.{int64, uint32};
 ghost use Rattle.otlp_types.specs.declared.span.Span.{Span};
 ghost use Rattle.block_json.specs.Parts.{IsSpan, HasParts};
 
-use span_block::{bytes_at, fixed32_at, fixed64_at, number_at};
+use message_cursor::Cursor;
 
-/// What a span's message holds beside its lists, in the bytes of its block. An id that isn't there has no bytes.
+/// What a span's message holds, in the bytes of its block. An id that isn't there has no bytes, and of a list the bytes from
+/// its first message on stand here.
 #[derive(Clone, Copy)]
 pub struct SpanParts<'a> {
     pub trace_id: &'a [u8],
@@ -17,8 +18,11 @@ pub struct SpanParts<'a> {
     pub kind: i64,
     pub start: u64,
     pub end: u64,
+    pub attributes: &'a [u8],
     pub dropped_attributes: u32,
+    pub events: &'a [u8],
     pub dropped_events: u32,
+    pub links: &'a [u8],
     pub dropped_links: u32,
     /// The message of the status.
     pub status: &'a [u8],
@@ -29,20 +33,40 @@ pub struct SpanParts<'a> {
 pub fn parts(message: &[u8]) -> SpanParts<'_>
     ensures { (s : Span) → IsSpan message.now s → HasParts s result }
 {
+    let mut cursor = Cursor::of(message);
+    let trace_id = cursor.bytes(1);
+    let span_id = cursor.bytes(2);
+    let trace_state = cursor.bytes(3);
+    let parent_id = cursor.bytes(4);
+    let name = cursor.bytes(5);
+    let kind = int64(cursor.number(6));
+    let start = cursor.fixed64(7);
+    let end = cursor.fixed64(8);
+    let attributes = cursor.rest;
+    let dropped_attributes = uint32(cursor.number(10));
+    let events = cursor.rest;
+    let dropped_events = uint32(cursor.number(12));
+    let links = cursor.rest;
+    let dropped_links = uint32(cursor.number(14));
+    let status = cursor.bytes(15);
+    let flags = cursor.fixed32(16);
     SpanParts {
-        trace_id: bytes_at(message, 1),
-        span_id: bytes_at(message, 2),
-        trace_state: bytes_at(message, 3),
-        parent_id: bytes_at(message, 4),
-        name: bytes_at(message, 5),
-        kind: int64(number_at(message, 6)),
-        start: fixed64_at(message, 7),
-        end: fixed64_at(message, 8),
-        dropped_attributes: uint32(number_at(message, 10)),
-        dropped_events: uint32(number_at(message, 12)),
-        dropped_links: uint32(number_at(message, 14)),
-        status: bytes_at(message, 15),
-        flags: fixed32_at(message, 16),
+        trace_id,
+        span_id,
+        trace_state,
+        parent_id,
+        name,
+        kind,
+        start,
+        end,
+        attributes,
+        dropped_attributes,
+        events,
+        dropped_events,
+        links,
+        dropped_links,
+        status,
+        flags,
     }
 }
 

@@ -19,8 +19,7 @@ use crate::members;
 use crate::parts::{SpanParts, int64, parts, uint32};
 use crate::sink::TokenSink;
 use crate::values::pairs;
-use protobuf_wire::Fields;
-use span_block::{bytes_at, fixed32_at, fixed64_at, next_message, number_at};
+use message_cursor::Cursor;
 
 /// How deep a value may nest.
 const MOST_LEVELS: u32 = 29;
@@ -31,11 +30,16 @@ fn event<S: TokenSink>(out: &mut S, message: &[u8])
         → S.adds out.old out.new (value_tokens (object (event_fields e))) }
 {
     let _room = message.len();
+    let mut cursor = Cursor::of(message);
+    let time = cursor.fixed64(1);
+    let name = cursor.bytes(2);
+    let attributes = cursor.rest;
+    let dropped = uint32(cursor.number(4));
     out.begin_object();
-    pairs(out, "attributes", MOST_LEVELS, 3, message);
-    members::count(out, "droppedAttributesCount", uint32(number_at(message, 4)));
-    members::text(out, "name", bytes_at(message, 2));
-    members::time(out, "timeUnixNano", fixed64_at(message, 1));
+    pairs(out, "attributes", MOST_LEVELS, 3, attributes);
+    members::count(out, "droppedAttributesCount", dropped);
+    members::text(out, "name", name);
+    members::time(out, "timeUnixNano", time);
     out.end_object();
 }
 
@@ -45,13 +49,20 @@ fn link<S: TokenSink>(out: &mut S, message: &[u8])
         → S.adds out.old out.new (value_tokens (object (link_fields l))) }
 {
     let _room = message.len();
+    let mut cursor = Cursor::of(message);
+    let trace_id = cursor.bytes(1);
+    let span_id = cursor.bytes(2);
+    let trace_state = cursor.bytes(3);
+    let attributes = cursor.rest;
+    let dropped = uint32(cursor.number(5));
+    let flags = cursor.fixed32(6);
     out.begin_object();
-    pairs(out, "attributes", MOST_LEVELS, 4, message);
-    members::count(out, "droppedAttributesCount", uint32(number_at(message, 5)));
-    members::count(out, "flags", fixed32_at(message, 6));
-    members::hex(out, "spanId", bytes_at(message, 2));
-    members::hex(out, "traceId", bytes_at(message, 1));
-    members::text(out, "traceState", bytes_at(message, 3));
+    pairs(out, "attributes", MOST_LEVELS, 4, attributes);
+    members::count(out, "droppedAttributesCount", dropped);
+    members::count(out, "flags", flags);
+    members::hex(out, "spanId", span_id);
+    members::hex(out, "traceId", trace_id);
+    members::text(out, "traceState", trace_state);
     out.end_object();
 }
 
@@ -60,14 +71,14 @@ fn events<S: TokenSink>(out: &mut S, message: &[u8])
     ensures { (es : List Event) → AreIn wire.event_fields (EventIsTyped most_levels) 11 message.now es
         → S.adds out.old out.new (field_tokens (codes "events") (list_field (map event_fields es))) }
 {
-    let mut items = Fields::of(message);
-    let Some(first) = next_message(&mut items, 11) else {
+    let mut items = Cursor::of(message);
+    let Some(first) = items.message(11) else {
         return;
     };
     out.key("events");
     out.begin_array();
     event(out, first);
-    'items: while let Some(item) = next_message(&mut items, 11) {
+    'items: while let Some(item) = items.message(11) {
         event(out, item);
     }
     out.end_array();
@@ -78,14 +89,14 @@ fn links<S: TokenSink>(out: &mut S, message: &[u8])
     ensures { (ls : List Link) → AreIn wire.link_fields (LinkIsTyped most_levels) 13 message.now ls
         → S.adds out.old out.new (field_tokens (codes "links") (list_field (map link_fields ls))) }
 {
-    let mut items = Fields::of(message);
-    let Some(first) = next_message(&mut items, 13) else {
+    let mut items = Cursor::of(message);
+    let Some(first) = items.message(13) else {
         return;
     };
     out.key("links");
     out.begin_array();
     link(out, first);
-    'items: while let Some(item) = next_message(&mut items, 13) {
+    'items: while let Some(item) = items.message(13) {
         link(out, item);
     }
     out.end_array();
@@ -97,8 +108,9 @@ fn status<S: TokenSink>(out: &mut S, message: &[u8])
         → S.adds out.old out.new (field_tokens (codes "status") (message_field (status_fields s))) }
 {
     let _room = message.len();
-    let code = int64(number_at(message, 3));
-    let text = bytes_at(message, 2);
+    let mut cursor = Cursor::of(message);
+    let text = cursor.bytes(2);
+    let code = int64(cursor.number(3));
     if code == 0 && text.is_empty() {
         return;
     }
@@ -116,40 +128,40 @@ pub fn span<S: TokenSink>(out: &mut S, message: &[u8])
 {
     let parts = parts(message);
     out.begin_object();
-    counts(out, message, parts);
-    head(out, message, parts);
-    tail(out, message, parts);
+    counts(out, parts);
+    head(out, parts);
+    tail(out, parts);
     out.end_object();
 }
 
 /// The attributes and the counts.
-fn counts<S: TokenSink>(out: &mut S, message: &[u8], parts: SpanParts<'_>)
-    ensures { (s : Span) → IsSpan message.now s → HasParts s parts.entry
+fn counts<S: TokenSink>(out: &mut S, parts: SpanParts<'_>)
+    ensures { (s : Span) → HasParts s parts.entry
         → S.adds out.old out.new (span_counts s) }
 {
-    pairs(out, "attributes", MOST_LEVELS, 9, message);
+    pairs(out, "attributes", MOST_LEVELS, 9, parts.attributes);
     members::count(out, "droppedAttributesCount", parts.dropped_attributes);
     members::count(out, "droppedEventsCount", parts.dropped_events);
     members::count(out, "droppedLinksCount", parts.dropped_links);
 }
 
 /// The members from `endTimeUnixNano` to `kind`.
-fn head<S: TokenSink>(out: &mut S, message: &[u8], parts: SpanParts<'_>)
-    ensures { (s : Span) → IsSpan message.now s → HasParts s parts.entry
+fn head<S: TokenSink>(out: &mut S, parts: SpanParts<'_>)
+    ensures { (s : Span) → HasParts s parts.entry
         → S.adds out.old out.new (span_head s) }
 {
     members::time(out, "endTimeUnixNano", parts.end);
-    events(out, message);
+    events(out, parts.events);
     members::count(out, "flags", parts.flags);
     members::whole(out, "kind", parts.kind);
 }
 
 /// The members from `links` on, in order of their names.
-fn tail<S: TokenSink>(out: &mut S, message: &[u8], parts: SpanParts<'_>)
-    ensures { (s : Span) → IsSpan message.now s → HasParts s parts.entry
+fn tail<S: TokenSink>(out: &mut S, parts: SpanParts<'_>)
+    ensures { (s : Span) → HasParts s parts.entry
         → S.adds out.old out.new (span_tail s) }
 {
-    links(out, message);
+    links(out, parts.links);
     members::text(out, "name", parts.name);
     members::hex(out, "parentSpanId", parts.parent_id);
     members::hex(out, "spanId", parts.span_id);

@@ -15,9 +15,9 @@ ghost use Rattle.block_json.specs.Messages.{IsOf, AreIn};
 
 use crate::members;
 use crate::sink::TokenSink;
+use message_cursor::Cursor;
 use otlp_types::Double;
 use protobuf_wire::{Fields, WireField, WireValue};
-use span_block::{bytes_at, next_message};
 use std::num::f64_from_bits_with_nan;
 
 /// Pairs in the fields of this number, as a member of this name, unless there are none. Values nest at most so many levels
@@ -27,14 +27,14 @@ pub fn pairs<S: TokenSink>(out: &mut S, name: &str, levels: u32, number: u32, me
     ensures { (ps : List KeyValue) → AreIn wire.pair_fields (PairIsTyped levels) number message.now ps
         → S.adds out.old out.new (field_tokens name.now (list_field (map pair_fields ps))) }
 {
-    let mut items = Fields::of(message);
-    let Some(first) = next_message(&mut items, number) else {
+    let mut items = Cursor::of(message);
+    let Some(first) = items.message(number) else {
         return;
     };
     out.key(name);
     out.begin_array();
     pair(out, levels, first);
-    'items: while let Some(item) = next_message(&mut items, number) {
+    'items: while let Some(item) = items.message(number) {
         pair(out, levels, item);
     }
     out.end_array();
@@ -47,9 +47,12 @@ fn pair<S: TokenSink>(out: &mut S, levels: u32, message: &[u8])
         → S.adds out.old out.new (value_tokens (object (pair_fields p))) }
 {
     let _room = message.len();
+    let mut cursor = Cursor::of(message);
+    let key = cursor.bytes(1);
+    let held = cursor.bytes(2);
     out.begin_object();
-    members::text(out, "key", bytes_at(message, 1));
-    set_value(out, levels, bytes_at(message, 2));
+    members::text(out, "key", key);
+    set_value(out, levels, held);
     out.end_object();
 }
 
@@ -147,14 +150,14 @@ fn values<S: TokenSink>(out: &mut S, levels: u32, message: &[u8])
     ensures { (vs : List AnyValue) → AreIn wire.value_fields (ValueIsTyped levels) 1 message.now vs
         → S.adds out.old out.new (field_tokens (codes "values") (list_field (map value_fields vs))) }
 {
-    let mut items = Fields::of(message);
-    let Some(first) = next_message(&mut items, 1) else {
+    let mut items = Cursor::of(message);
+    let Some(first) = items.message(1) else {
         return;
     };
     out.key("values");
     out.begin_array();
     value(out, levels, first);
-    'items: while let Some(item) = next_message(&mut items, 1) {
+    'items: while let Some(item) = items.message(1) {
         value(out, levels, item);
     }
     out.end_array();

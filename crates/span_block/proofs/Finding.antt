@@ -1,17 +1,10 @@
 -- A search through the fields of a message.
--- For find of find.rt, and next_message of messages.rt.
+-- For next_message of messages.rt.
 use Rattle.std.proofs.Common.{◌≡◌, ℕ, List, Ok, refl}
 use Rattle.protobuf_wire.specs.Wire.{Field, fields_of}
-use Rattle.span_block.specs.Walk.{first_field, messages}
+use Rattle.span_block.specs.Walk.{messages}
 
--- of these bytes of the message the fields are left, and what is sought isn't in front of them
-pub record IsLeft (n : ℕ) (message rest : List ℕ) : Type 0 where
-  pub left : (fs : List Field) → fields_of message ≡ Ok fs → (gs : List Field) × (fields_of rest ≡ Ok gs) × (first_field n gs ≡ first_field n fs)
-
-pub all_left : (n : ℕ) (message : List ℕ) → IsLeft n message message
-all_left n message = record { left = λ fs e. (fs, e, refl) }
-
--- the same of messages
+-- of these bytes of the message the fields are left, and no message in front of them
 pub record StillLeft (n : ℕ) (message rest : List ℕ) : Type 0 where
   pub left : (fs : List Field) → fields_of message ≡ Ok fs → (gs : List Field) × (fields_of rest ≡ Ok gs) × (messages n gs ≡ messages n fs)
 

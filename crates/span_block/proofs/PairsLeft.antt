@@ -6,7 +6,7 @@ use Rattle.std.specs.Result.{result_ok}
 use Rattle.std.specs.Float.{binary64}
 use Rattle.std.specs.List.{AllByRecursion}
 use Rattle.std.proofs.lemmas.Bool.Decides.{nat_tests}
-use Rattle.protobuf_wire.specs.Wire.{Field, Value, varint, fixed64, bytes, fields, fields_of}
+use Rattle.protobuf_wire.specs.Wire.{Field, varint, fixed64, bytes, fields, fields_of}
 use Rattle.protobuf_writer.specs.Writing.{number_bytes, tag_bytes, field_bytes, message_bytes}
 use Rattle.protobuf_writer.specs.Defaults.{field, text_field, message_in, message_field, repeated}
 use Rattle.protobuf_writer.proofs.Adding.{append-fields}
@@ -17,7 +17,7 @@ use Rattle.otlp_types.specs.declared.value.AnyValue.TheVariants.{rolls-Empty, ro
 use Rattle.otlp_types.specs.declared.value.KeyValue.{KeyValue}
 use Rattle.otlp_types.specs.declared.span.Span.{Span}
 use Rattle.otlp_protobuf.specs.Values.{no_pair, most_levels}
-use Rattle.otlp_protobuf_encode.specs.Writing.{base64_of, int_bits, truth_bits, value_fields, pair_fields, attributes, event_fields, link_fields, status_fields, span_head, span_times, span_tail, span_fields}
+use Rattle.otlp_protobuf_encode.specs.Writing.{base64_of, int_bits, truth_bits, value_fields, pair_fields, attributes, span_fields}
 use Rattle.otlp_protobuf_encode.specs.ReadsBack.{HasRoom}
 use Rattle.otlp_protobuf_encode.proofs.NumbersBack.{int64-back, bits64, truth-back, truth_small}
 use Rattle.otlp_protobuf_encode.proofs.Values.{fields-Empty, fields-Str, fields-Truth, fields-Int, fields-Double, fields-Array, fields-KvList, fields-Bytes, fields-pair}

@@ -1,6 +1,6 @@
 -- What a span that has a block holds at any depth, for private clauses here and above: texts in UTF-8, numbers within the
 -- ranges of their types, and texts for bytes that are written again as they were.
-use Rattle.std.specs.Prelude.{◌≡◌, ℕ, zero, suc, ◌<◌, ◌^◌, ◌⊎◌, List, FitsSigned, to_bits}
+use Rattle.std.specs.Prelude.{◌≡◌, ℕ, zero, suc, ◌<◌, ◌^◌, ◌⊎◌}
 use Rattle.std.specs.List.{AllByRecursion}
 use Rattle.std.specs.Str.{IsUtf8}
 use Rattle.otlp_types.specs.declared.value.AnyValue.{AnyValue, out-AnyValue, Empty}

@@ -1,7 +1,8 @@
-use Rattle.std.proofs.Common.{sym, arith}
-use Rattle.json.proofs.Printed.Plain.{plain_from_lanes}
-use Rattle.span_size.proofs.Escapes.{plain-block}
+use Rattle.json.proofs.Printed.Plain.{escape_on_plain}
 use Rattle.block_json.proofs.escaped.is_plain.Goals as goal
 
-pub returns : goal.returns
-returns c = plain-block _ c.args.block.now 8 (sym c.requires) (plain_from_lanes c.args.block.now 0 8 (omega arith) (omega arith) c.type_inv.block)
+pub returns-then-text-le32 : goal.returns-then-text-le32
+returns-then-text-le32 c = escape_on_plain c.plain_short.result c.args.text.now c.plain_short.ensures
+
+pub returns-else-text-le32 : goal.returns-else-text-le32
+returns-else-text-le32 c = escape_on_plain c.plain_long.result c.args.text.now c.plain_long.ensures

@@ -7,7 +7,7 @@ use Rattle.block_json.proofs.Lists.{SoFar}
 use Rattle.block_json.proofs.span.events.Given as goal
 
 abbrev pub invariant-items : goal.invariant-items
-invariant-items g l = SoFar g.S.TokenSink.adds wire.event_fields (EventIsTyped most_levels) event_fields (codes "events") 11 l.message l.items l.fn.out l.out
+invariant-items g l = SoFar g.S.TokenSink.adds wire.event_fields (EventIsTyped most_levels) event_fields (codes "events") 11 l.message l.items.rest.now l.fn.out l.out
 
 abbrev pub decreases-items : goal.decreases-items
-decreases-items g l = length l.items
+decreases-items g l = length l.items.rest.now

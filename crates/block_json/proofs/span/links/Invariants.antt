@@ -7,7 +7,7 @@ use Rattle.block_json.proofs.Lists.{SoFar}
 use Rattle.block_json.proofs.span.links.Given as goal
 
 abbrev pub invariant-items : goal.invariant-items
-invariant-items g l = SoFar g.S.TokenSink.adds wire.link_fields (LinkIsTyped most_levels) link_fields (codes "links") 13 l.message l.items l.fn.out l.out
+invariant-items g l = SoFar g.S.TokenSink.adds wire.link_fields (LinkIsTyped most_levels) link_fields (codes "links") 13 l.message l.items.rest.now l.fn.out l.out
 
 abbrev pub decreases-items : goal.decreases-items
-decreases-items g l = length l.items
+decreases-items g l = length l.items.rest.now

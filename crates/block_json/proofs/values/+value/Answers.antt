@@ -1,4 +1,4 @@
-use Rattle.std.proofs.Common.{[], ◌∷◌, Option, ◌≡◌, ◌<◌, ◌^◌, ℕ, suc, Bool, List, length, map, Some, Ok, codes, refl, sym, ap, ◌∙◌, subst, arith, inl, inr, ◌==◌}
+use Rattle.std.proofs.Common.{[], ◌∷◌, Option, ◌≡◌, ◌<◌, ◌^◌, ℕ, suc, Bool, List, length, map, Some, Ok, codes, refl, sym, ap, ◌∙◌, subst, arith, lit<, inl, inr, ◌==◌}
 use Rattle.json.specs.Token.{Token}
 use Rattle.serde_json.specs.Data.{Members, boolean, string, object}
 use Rattle.protobuf_wire.specs.Wire.{fields_of}
@@ -13,6 +13,7 @@ use Rattle.base64.specs.Engines.{standard}
 use Rattle.base64.specs.GeneralPurpose.{encode_of}
 use Rattle.std.specs.Float.{Float}
 use Rattle.span_block.specs.Walk.{bytes_in}
+use Rattle.message_cursor.proofs.Lefts.{all_left, next}
 use Rattle.span_block.specs.Typed.{ValueIsTyped, PairIsTyped}
 use Rattle.span_block.proofs.PairsLeft.{key_found}
 use Rattle.block_json.specs.Messages.{AreIn}
@@ -23,28 +24,28 @@ use Rattle.block_json.proofs.Layers.{text_value, truth_value, int_value, double_
 use Rattle.block_json.proofs.values.+value.Goals as goal
 
 pub pairs-returns-in_default : goal.pairs-returns-in_default
-pairs-returns-in_default g t c = none-told g.met.S.TokenSink.composes wire.pair_fields (PairIsTyped c.args.levels) pair_fields c.args.name.now c.args.number c.args.message.now c.of-items.result c.next_message.new.fields c.args.out.now c.of-items.ensures c.in_default.ensures.next
+pairs-returns-in_default g t c = none-told g.met.S.TokenSink.composes wire.pair_fields (PairIsTyped c.args.levels) pair_fields c.args.name.now c.args.number c.args.message.now c.of-items.result.rest.now c.message.new.self.rest.now c.args.out.now c.of-items.ensures c.in_default.ensures.next
 
 pub pairs-items-init : goal.pairs-items-init
-pairs-items-init g t c = first-told g.met.S.TokenSink.composes wire.pair_fields (PairIsTyped c.args.levels) pair_fields c.args.name.now c.args.number c.args.message.now c.of-items.result c.next_message.new.fields c.in-Some.first c.args.out.now c.key.new.self c.begin_array.new.self c.pair.new.out c.of-items.ensures c.in-Some.ensures.next c.key.ensures c.begin_array.ensures c.pair.ensures
+pairs-items-init g t c = first-told g.met.S.TokenSink.composes wire.pair_fields (PairIsTyped c.args.levels) pair_fields c.args.name.now c.args.number c.args.message.now c.of-items.result.rest.now c.message.new.self.rest.now c.in-Some.first c.args.out.now c.key.new.self c.begin_array.new.self c.pair.new.out c.of-items.ensures c.in-Some.ensures.next c.key.ensures c.begin_array.ensures c.pair.ensures
 
 pub pairs-items-preserved : goal.pairs-items-preserved
-pairs-items-preserved g t c = next-told g.met.S.TokenSink.composes wire.pair_fields (PairIsTyped c.args.levels) pair_fields c.args.name.now c.args.number c.args.message.now c.items.items c.next_message-in-items.new.fields c.in-Some-next_message.item c.args.out.now c.items.out c.pair-in-Some-next_message.new.out c.items.invariant c.in-Some-next_message.ensures.next c.pair-in-Some-next_message.ensures
+pairs-items-preserved g t c = next-told g.met.S.TokenSink.composes wire.pair_fields (PairIsTyped c.args.levels) pair_fields c.args.name.now c.args.number c.args.message.now c.items.items.rest.now c.message-in-items.new.self.rest.now c.in-Some-message.item c.args.out.now c.items.out c.pair-in-Some-message.new.out c.items.invariant c.in-Some-message.ensures.next c.pair-in-Some-message.ensures
 
 pub pairs-returns : goal.pairs-returns
-pairs-returns g t c = all-told g.met.S.TokenSink.composes wire.pair_fields (PairIsTyped c.args.levels) pair_fields c.args.name.now c.args.number c.args.message.now c.items.items c.next_message-in-items.new.fields c.args.out.now c.items.out c.end_array.new.self c.items.invariant c.in_default-next_message.ensures.next c.end_array.ensures
+pairs-returns g t c = all-told g.met.S.TokenSink.composes wire.pair_fields (PairIsTyped c.args.levels) pair_fields c.args.name.now c.args.number c.args.message.now c.items.items.rest.now c.message-in-items.new.self.rest.now c.args.out.now c.items.out c.end_array.new.self c.items.invariant c.in_default-message.ensures.next c.end_array.ensures
 
 pub values-returns-in_default : goal.values-returns-in_default
-values-returns-in_default g t c = none-told g.met.S.TokenSink.composes wire.value_fields (ValueIsTyped c.args.levels) value_fields (codes "values") 1 c.args.message.now c.of-items.result c.next_message.new.fields c.args.out.now c.of-items.ensures c.in_default.ensures.next
+values-returns-in_default g t c = none-told g.met.S.TokenSink.composes wire.value_fields (ValueIsTyped c.args.levels) value_fields (codes "values") 1 c.args.message.now c.of-items.result.rest.now c.message.new.self.rest.now c.args.out.now c.of-items.ensures c.in_default.ensures.next
 
 pub values-items-init : goal.values-items-init
-values-items-init g t c = first-told g.met.S.TokenSink.composes wire.value_fields (ValueIsTyped c.args.levels) value_fields (codes "values") 1 c.args.message.now c.of-items.result c.next_message.new.fields c.in-Some.first c.args.out.now c.key.new.self c.begin_array.new.self c.value.new.out c.of-items.ensures c.in-Some.ensures.next c.key.ensures c.begin_array.ensures c.value.ensures
+values-items-init g t c = first-told g.met.S.TokenSink.composes wire.value_fields (ValueIsTyped c.args.levels) value_fields (codes "values") 1 c.args.message.now c.of-items.result.rest.now c.message.new.self.rest.now c.in-Some.first c.args.out.now c.key.new.self c.begin_array.new.self c.value.new.out c.of-items.ensures c.in-Some.ensures.next c.key.ensures c.begin_array.ensures c.value.ensures
 
 pub values-items-preserved : goal.values-items-preserved
-values-items-preserved g t c = next-told g.met.S.TokenSink.composes wire.value_fields (ValueIsTyped c.args.levels) value_fields (codes "values") 1 c.args.message.now c.items.items c.next_message-in-items.new.fields c.in-Some-next_message.item c.args.out.now c.items.out c.value-in-Some-next_message.new.out c.items.invariant c.in-Some-next_message.ensures.next c.value-in-Some-next_message.ensures
+values-items-preserved g t c = next-told g.met.S.TokenSink.composes wire.value_fields (ValueIsTyped c.args.levels) value_fields (codes "values") 1 c.args.message.now c.items.items.rest.now c.message-in-items.new.self.rest.now c.in-Some-message.item c.args.out.now c.items.out c.value-in-Some-message.new.out c.items.invariant c.in-Some-message.ensures.next c.value-in-Some-message.ensures
 
 pub values-returns : goal.values-returns
-values-returns g t c = all-told g.met.S.TokenSink.composes wire.value_fields (ValueIsTyped c.args.levels) value_fields (codes "values") 1 c.args.message.now c.items.items c.next_message-in-items.new.fields c.args.out.now c.items.out c.end_array.new.self c.items.invariant c.in_default-next_message.ensures.next c.end_array.ensures
+values-returns g t c = all-told g.met.S.TokenSink.composes wire.value_fields (ValueIsTyped c.args.levels) value_fields (codes "values") 1 c.args.message.now c.items.items.rest.now c.message-in-items.new.self.rest.now c.args.out.now c.items.out c.end_array.new.self c.items.invariant c.in_default-message.ensures.next c.end_array.ensures
 
 pub array-returns : goal.array-returns
 array-returns g t c vs are =
@@ -64,8 +65,10 @@ pair-returns g t c p is =
     let fs = wire.pair_fields p in
     let room : length c.args.message.now < 2 ^ 64 = omega arith in
     let read : fields_of c.args.message.now ≡ Ok (wire.pair_fields p) = pair_read p c.args.message.now is.written room in
-    let name = c.bytes_at.ensures.found fs read ∙ key_found p in
-    let held = c.bytes_at-2.ensures.found fs read ∙ pair_value p in
+    let all = all_left fs c.of-cursor.result.rest.now (ap fields_of c.of-cursor.ensures ∙ read) in
+    let first = next bytes_in 0 1 fs _ _ _ all (lit< tt) c.bytes-key.ensures.asked in
+    let name = first.0 ∙ key_found p in
+    let held = (next bytes_in 1 2 fs _ _ _ first.1 (lit< tt) c.bytes-held.ensures.asked).0 ∙ pair_value p in
     let K : List ℕ → Type 0 = λ s. g.S.TokenSink.adds c.begin_object.new.self c.text.new.out (field_tokens (codes "key") (text_field s)) in
     let Q : Members → Type 0 = λ ms. g.S.TokenSink.adds c.args.out.now c.end_object.new.self (value_tokens (object ms)) in
     subst Q (sym (fields-pair p)) (object-added h c.args.out.now c.end_object.new.self (pair_table p) refl

@@ -30,13 +30,13 @@ abbrev pub decreases-values : goal.decreases-values
 decreases-values g l = 11 * l.levels + 8
 
 abbrev pub invariant-pairs-items : goal.invariant-pairs-items
-invariant-pairs-items g l = SoFar g.S.TokenSink.adds wire.pair_fields (PairIsTyped l.levels) pair_fields l.name l.number l.message l.items l.fn.out l.out
+invariant-pairs-items g l = SoFar g.S.TokenSink.adds wire.pair_fields (PairIsTyped l.levels) pair_fields l.name l.number l.message l.items.rest.now l.fn.out l.out
 
 abbrev pub decreases-pairs-items : goal.decreases-pairs-items
-decreases-pairs-items g l = length l.items
+decreases-pairs-items g l = length l.items.rest.now
 
 abbrev pub invariant-values-items : goal.invariant-values-items
-invariant-values-items g l = SoFar g.S.TokenSink.adds wire.value_fields (ValueIsTyped l.levels) value_fields (codes "values") 1 l.message l.items l.fn.out l.out
+invariant-values-items g l = SoFar g.S.TokenSink.adds wire.value_fields (ValueIsTyped l.levels) value_fields (codes "values") 1 l.message l.items.rest.now l.fn.out l.out
 
 abbrev pub decreases-values-items : goal.decreases-values-items
-decreases-values-items g l = length l.items
+decreases-values-items g l = length l.items.rest.now

@@ -1,0 +1,3 @@
+-- To be read in this order: Walk; Front (for provers).
+pub mod Walk
+pub mod Front
