@@ -23,6 +23,7 @@ use Rattle.shard_worker.specs.Asking.{AskedBy}
 use Rattle.released_spans.specs.Shipping.{AreShipped}
 use Rattle.released_spans.proofs.Shipping.{shipped_none}
 use Rattle.shard_worker.specs.Work.{items, HaveIds, with_ids, journal_of, counted_in, ShardWorks, TicksWait}
+use Rattle.shard_worker.specs.Shipped.{shipped_in}
 use Rattle.shard_worker.specs.News.{News, AreTold, news}
 use Rattle.shard_worker.specs.Turns.{counted_dealt, HasDone, HasTaken}
 
@@ -82,7 +83,7 @@ kept_none told asks first s ends shard shipped tally merge stands none = (
   merge,
   tt,
   tt,
-  record { dealt = 0; all_dealt = refl; answered = tt; at = record { stands = stands; shipped_is = subst (λ (z : List Shipment). AreShipped z []) (sym none) shipped_none; counted = tallies_none (counted_dealt (settings shard) [] 0) tally nothing; asked = refl } },
+  record { dealt = 0; all_dealt = refl; answered = tt; at = record { stands = stands; shipped_is = subst (λ (z : List Shipment). AreShipped z []) (sym none) shipped_none; places = none; counted = tallies_none (counted_dealt (settings shard) [] 0) tally nothing; asked = refl } },
 ) where
   nothing : (count : Count) → counted_dealt (settings shard) [] 0 count ≡ 0
   nothing Received = refl
@@ -129,6 +130,7 @@ works told asks first capacity number s shard receiver items_shipped sender befo
       answered = subst (λ z. IsAnswered z J) is done.answered;
       asked = subst (λ z. AskedBy asks z J first limiter) is done.at.asked;
       shipped = (items_shipped, shipped, subst (AreShipped items_shipped) (ap (λ z. (effect_dealt z J done.dealt).released) is ∙ ap (λ (e : Effect). e.released) same) done.at.shipped_is);
+      places = shipped ∙ ap (λ l. l ++ End number ∷ []) (subst (λ z. items_shipped ≡ shipped_in z J) is done.at.places);
       counted = tallies_same (counted_dealt s J done.dealt) (counted_in s J) before tally (λ count. sym (counts count)) (subst (λ z. Tallies (counted_dealt z J done.dealt) before tally) is done.at.counted);
     } where
       counts : (count : Count) → counted_dealt s (journal_of popped) kept.3.dealt count ≡ counted_in s (journal_of popped) count

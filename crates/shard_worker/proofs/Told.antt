@@ -1,10 +1,8 @@
 -- What there is to tell, once it is told.
 -- For the contracts of `Turns::turn` and `Turns::decide_due`.
-use Rattle.std.proofs.Common.{◌≡◌, ℕ, zero, suc, ◌+◌, Bool, true, false, not, ◌&&◌, cond, nat_le, List, [], ◌∷◌, ◌++◌, map, length, take, drop, Option, Some, refl, sym, ap, ◌∙◌, subst, inl, inr}
+use Rattle.std.proofs.Common.{◌≡◌, ℕ, zero, suc, ◌+◌, Bool, true, false, cond, nat_le, List, [], ◌∷◌, ◌++◌, map, length, take, drop, Option, Some, refl, sym, ap, ◌∙◌, subst, inl, inr}
 use Rattle.std.specs.Prelude.{◌⊎◌, IfSome}
 use Rattle.std.proofs.lemmas.Bool.{and_parts}
-use Rattle.otlp_types.specs.declared.arrival.Item.{Item}
-use Rattle.otlp_types.specs.declared.arrival.Item.TheVariants.{Span, Tick, End}
 use Rattle.otlp_types.specs.declared.arrival.Arrival.{Arrival}
 use Rattle.span_ids.specs.declared.outcome.Verdict.{Verdict}
 use Rattle.span_ids.specs.declared.outcome.Verdict.TheVariants.{Sampled, NotSampled}
@@ -20,15 +18,14 @@ use Rattle.journal_theory.specs.Journal.{Entry, Settings, Journal, Opening, cloc
 use Rattle.journal_theory.specs.Standing.{Standing, mark}
 use Rattle.journal_theory.proofs.Answering.{no_more, ended-same, mark-same, due-same}
 use Rattle.shard_core.specs.Held.{Held, settings, StandsFor}
-use Rattle.shard_core.specs.Taking.{Releases, DecidesFirst, TellsDecider, TellsAnswers, answer_to}
+use Rattle.shard_core.specs.Taking.{Releases, DecidesFirst, TellsDecider, TellsAnswers}
 use Rattle.shard_core.specs.Telling.{cause_at, due_told, next_told, said_by, told_decision}
-use Rattle.shard_core.specs.declared.answer.Taken.TheVariants.{Ended, Finished}
 use Rattle.shard_core.specs.declared.answer.Decided.{Decided}
 use Rattle.shard_core.specs.declared.answer.Decided.TheVariants.{Release, Nothing, Dropped as NotReleased}
 use Rattle.shard_core.specs.declared.answer.DueTrace.{DueTrace}
 use Rattle.shard_worker.specs.News.{News, decided, IsTold, AreTold, decision_news, decisions_news}
 use Rattle.shard_worker.specs.Turns.{TellsDecisions}
-use Rattle.shard_worker.proofs.Moves.{given_after}
+use Rattle.shard_worker.proofs.Giving.{given_after}
 
 pub told_both : (told : News → Type 0) (a b : List News) → AreTold told a → AreTold told b → AreTold told (a ++ b)
 told_both told [] b x y = y
@@ -44,14 +41,6 @@ told_unanswered told s past (o ∷ os) = tt
 module _ (s : Settings) (e : Entry) (before : Journal) (more : List (List Bool)) where
   abbrev other : Journal
   other = record e { answers = more } ∷ before
-
-  pub answer_same : answer_to s (record e { answers = more }) before ≡ answer_to s e before
-  answer_same = by e.item
-    where
-      by : (item : Item) → answer_to s (record { item = item; refused = e.refused; lost = e.lost; answers = more }) before ≡ answer_to s (record { item = item; refused = e.refused; lost = e.lost; answers = e.answers }) before
-      by (Span a) = refl
-      by (Tick m) = refl
-      by (End sender) = ap (λ b. cond (b && not (have_ended before s.senders)) Finished Ended) (ended-same s (record { item = End sender; refused = e.refused; lost = e.lost; answers = e.answers }) before more s.senders)
 
   cause_same : (o : Opening) → cause_at s other o ≡ cause_at s (e ∷ before) o
   cause_same o =

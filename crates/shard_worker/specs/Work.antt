@@ -20,6 +20,7 @@ use Rattle.journal_theory.specs.Fate.{effect, output, under}
 use Rattle.shard_core.specs.Held.{Held, StandsFor}
 use Rattle.journal_theory.specs.Marked.{MarksApply}
 use Rattle.shard_worker.specs.Asking.{AskedBy}
+use Rattle.shard_worker.specs.Shipped.{shipped_in}
 
 -- the popped items without their marks, each with the number of its sender
 abbrev pub items : List (ℕ × Entry) → List (ℕ × Item)
@@ -142,5 +143,7 @@ pub record ShardWorks {L : Type 0} (asks : L → ℕ → ℕ → ℕ → Bool �
   pub asked : AskedBy asks s (journal_of popped) first last
   -- what was shipped is that journal's output, and then the End
   pub shipped : (shipped : List Shipment) × (sender.items ≡ shipped ++ End number ∷ []) × AreShipped shipped (output s (journal_of popped))
+  -- each span with the place of the policy that decided its trace, and with none where it came late
+  pub places : sender.items ≡ shipped_in s (journal_of popped) ++ End number ∷ []
   -- what was counted is what that journal counts
   pub counted : Tallies (counted_in s (journal_of popped)) before after

@@ -13,7 +13,8 @@ use Rattle.shard_worker.specs.News.{IsTold}
 use Rattle.shard_worker.specs.Turns.{TellsDecisions}
 use Rattle.shard_worker.proofs.Nodes.{knows_kept}
 use Rattle.shard_worker.proofs.Told.{told_deciding, told_since}
-use Rattle.shard_worker.proofs.Moves.{given_after, at_decided, done_decided}
+use Rattle.shard_worker.proofs.Giving.{given_after}
+use Rattle.shard_worker.proofs.Moves.{at_decided, done_decided}
 use Rattle.shard_worker.proofs.turn.Turns.decide_due.Goals as goal
 
 pub loop-init : goal.loop-init
@@ -42,7 +43,7 @@ returns-then-not-settle_decided g c =
           let now = inv.6 first before e past dealt at in
           let P : Journal = record e { answers = now.1 } ∷ past in
           let here = at_decided A first t u before old new c.loop.self.desk.sender.items c.settle_decided.new.desk.sender.items c.loop.self.desk.tally c.settle_decided.new.desk.tally e past now.1 now.0 c.recorded-self.result did.decider did.answers.items did.decided now.2
-          decides told_settings (ap (λ x. x.items) settled.takes.0) settled.takes.1 in (
+          decides told_settings c.recorded-self.ensures (ap (λ x. x.items) settled.takes.0) settled.takes.1 in (
             now.1,
             done_decided A first u before old new c.settle_decided.new.desk.sender.items c.settle_decided.new.desk.tally e past now.1 decides.0 now.0 did.decided none told_settings
                 (subst (λ (x : Held). StandsFor x P now.0 → effect_dealt (settings x) P now.0 ≡ effect (settings x) P) same (told.all_dealt none P now.0) now.2.stands)
@@ -100,7 +101,7 @@ loop-preserved g c =
             dealt_after did.decided now.0,
             given_after did.decided now.1 decides.0,
             at_decided A first t u before old new c.loop.self.desk.sender.items c.settle_decided.new.desk.sender.items c.loop.self.desk.tally c.settle_decided.new.desk.tally e past now.1 now.0 c.recorded-self.result did.decider did.answers.items did.decided now.2
-                decides told_settings (ap (λ x. x.items) settled.takes.0) settled.takes.1,
+                decides told_settings c.recorded-self.ensures (ap (λ x. x.items) settled.takes.0) settled.takes.1,
             λ x. more (now.3 x),
           ),
     )

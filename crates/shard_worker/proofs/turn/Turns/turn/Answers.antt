@@ -1,6 +1,6 @@
 -- One item is taken, and then all that is due is decided.
 -- For the clauses of `Turns::turn`.
-use Rattle.std.proofs.Common.{◌≡◌, ◌∷◌, ℕ, true, None, Option, ap, ◌∙◌, refl, sym, subst}
+use Rattle.std.proofs.Common.{◌≡◌, ◌∷◌, ℕ, true, Option, ap, ◌∙◌, refl, sym, subst}
 use Rattle.span_ids.specs.declared.ids.TraceId.{TraceId}
 use Rattle.journal_theory.specs.Journal.{Entry, Settings, clock, due_now}
 use Rattle.journal_theory.specs.Standing.{Standing}
@@ -11,7 +11,8 @@ use Rattle.journal_theory.specs.Marked.{marks_apply}
 use Rattle.shard_worker.specs.News.{IsTold, AreTold, answer_news, decisions_news, news_now, trace_of}
 use Rattle.shard_worker.proofs.Nodes.{knows_kept}
 use Rattle.shard_worker.proofs.Moves.{at_taken}
-use Rattle.shard_worker.proofs.Told.{answer_same, decisions_same, told_both, told_unanswered}
+use Rattle.shard_worker.proofs.Giving.{answer_same}
+use Rattle.shard_worker.proofs.Told.{decisions_same, told_both, told_unanswered}
 use Rattle.shard_worker.proofs.turn.Turns.turn.Goals as goal
 
 pub decide_due-requires : goal.decide_due-requires
@@ -25,8 +26,8 @@ returns-clause-told g c = λ first before past h.
     let did = c.take-taken.ensures in
     let settled = c.settle_taken-finished.ensures in
     let stands = did.stands past h.dealt h.at.stands in
-    let at = at_taken g.L.Limiter.asks first c.args.self.now.limiter before c.args.self.now.shard c.take-taken.new.self c.args.self.now.desk.sender.items c.settle_taken-finished.new.desk.sender.items c.args.self.now.desk.tally c.settle_taken-finished.new.desk.tally past h.dealt None c.args.item answer h.at
-    stands did.settings (did.released past h.dealt h.at.stands) (λ reason. did.dropped past h.dealt reason h.at.stands) (ap (λ s. s.items) settled.takes.0) settled.takes.1 in
+    let at = at_taken g.L.Limiter.asks first c.args.self.now.limiter before c.args.self.now.shard c.take-taken.new.self c.args.self.now.desk.sender.items c.settle_taken-finished.new.desk.sender.items c.args.self.now.desk.tally c.settle_taken-finished.new.desk.tally past h.dealt c.args.item answer h.at
+    stands did.settings (did.released past h.dealt h.at.stands) (λ reason. did.dropped past h.dealt reason h.at.stands) (did.answer past h.dealt h.at.stands) (ap (λ s. s.items) settled.takes.0) settled.takes.1 in
     let marked = entry c.args.item answer in
     let done = c.decide_due.ensures.done first before marked past 0 at in
     let taken : Entry = record marked { answers = done.0 } in
