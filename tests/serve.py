@@ -23,6 +23,7 @@ import serve_decisions
 import serve_destination
 import serve_export
 import serve_faults
+import serve_ledger
 import serve_limits
 import serve_many
 import serve_memory
@@ -353,7 +354,7 @@ def main():
     """Runs each check on each program."""
     checks = [one_error, serve_on_loopback, asks_behind_the_close, is_kept_while_it_runs, keep_alive, chunked, expect, refusals, broken_clients, many_clients]
     checks += [queues_of_four, closes_under_way, refused_address, reader_is_gone, under_curl]
-    own = [senders, serve_limits, serve_many, serve_faults, serve_admin, serve_config, serve_close, serve_memory, serve_export, serve_destination, serve_operated, serve_output, serve_protobuf, serve_decisions, serve_record, serve_restart]
+    own = [senders, serve_limits, serve_many, serve_faults, serve_admin, serve_config, serve_close, serve_memory, serve_export, serve_destination, serve_operated, serve_output, serve_protobuf, serve_decisions, serve_record, serve_restart, serve_ledger]
     checks += [check for it in own for check in it.CHECKS]
     programs, left_out, share, of = sys.argv[1:], [], 1, 1
     if programs[:1] == ["--share"]:

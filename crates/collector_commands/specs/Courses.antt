@@ -7,7 +7,8 @@ use Rattle.script_session.specs.declared.fault.ReplayFault.{ReplayFault}
 use Rattle.collector_commands.specs.declared.outcome.Outcome.{Outcome}
 use Rattle.collector_commands.specs.declared.outcome.Outcome.TheVariants.{Usage, Unreadable, Configuration, Script, NoMemory, CounterOverflow, CannotListen, CannotWrite, Shown, SinkDown}
 use Rattle.collector_commands.specs.declared.asking.Command.{Command}
-use Rattle.collector_commands.specs.declared.asking.Command.TheVariants.{Replay, Compare, Serve, Validate, Close, Show, Help, Version}
+use Rattle.collector_commands.specs.declared.asking.Command.TheVariants.{Replay, Compare, Serve, Validate, Close, Show, Ledger, Help, Version}
+use Rattle.collector_commands.specs.declared.asking.LedgerForm.TheVariants.{Numbers, Script as AsScript}
 use Rattle.collector_commands.specs.declared.asking.Form.TheVariants.{Text, Json, Page}
 use Rattle.collector_commands.specs.Outcomes.{outcome_of}
 use Rattle.collector_commands.specs.Configuration.{FileFails, IsConfigOf}
@@ -35,16 +36,25 @@ asked_alone word =
     else if bytes_eq word (codes "show") then Some Show
     else None
 
--- what a word asks for that stands before the path of a configuration
+-- what a word asks for that stands before the path of a configuration, or of a ledger's folder
 unfoldable pub asked_by : (word : List ℕ) → Option Command
 asked_by word =
     if bytes_eq word (codes "replay") then Some Replay
     else if bytes_eq word (codes "serve") then Some Serve
     else if bytes_eq word (codes "validate") then Some Validate
     else if bytes_eq word (codes "close") then Some Close
+    else if bytes_eq word (codes "ledger") then Some (Ledger Numbers)
     else None
 
--- what a word asks for that stands before the paths of two configurations, by the word behind them, if there is one
+-- what a word asks for that stands before a path and a last word: the path of the second configuration of a comparison, or
+-- how a ledger's folder is told
+unfoldable pub asked_before : (word last : List ℕ) → Option Command
+asked_before word last =
+    if bytes_eq word (codes "compare") then Some (Compare Text)
+    else if bytes_eq word (codes "ledger") && bytes_eq last (codes "--script") then Some (Ledger AsScript)
+    else None
+
+-- what a word asks for that stands before the paths of two configurations, by the word behind them
 unfoldable pub asked_of_two : (word form : List ℕ) → Option Command
 asked_of_two word form =
     if bytes_eq word (codes "compare") && bytes_eq form [] then Some (Compare Text)
@@ -56,7 +66,7 @@ asked_of_two word form =
 abbrev pub asked : (arguments : List (List ℕ)) → Option Command
 asked (word ∷ []) = asked_alone word
 asked (word ∷ path ∷ []) = asked_by word
-asked (word ∷ old ∷ new ∷ []) = asked_of_two word []
+asked (word ∷ path ∷ last ∷ []) = asked_before word last
 asked (word ∷ old ∷ new ∷ form ∷ []) = asked_of_two word form
 asked _ = None
 

@@ -49,7 +49,7 @@ report_text report = concat (map (count_line report) counts)
 
 -- what can be asked for
 abbrev pub help_text : List ℕ
-help_text = codes "tsc: a tail-sampling trace collector\n\n  tsc serve CONFIG     takes requests until it is closed, and prints the spans that it keeps and a report\n  tsc replay CONFIG    runs a script of requests from standard input, and prints the same and its replies\n  tsc compare OLD NEW  runs a script by two configurations, and prints what each keeps and where they differ;\n                       with --json as JSON, with --html as a page\n  tsc validate CONFIG  prints ok, or a line for each fault of the configuration\n  tsc close CONFIG     asks the collector that runs by the configuration to close, and waits for its answer\n  tsc show             prints a request in protobuf, from standard input, as its line of JSON\n  tsc help             prints this text\n  tsc version          prints the version\n\nCONFIG, OLD and NEW are paths of TOML files. The exit status is 0 where all was done, 1 where a write failed, 2 for wrong\narguments, 3 for a refused configuration, 4 for a refused script or request, 5 for no memory, 6 where the address\ncan't be listened at or the collector doesn't answer that it closes, and 7 for a full book.\n"
+help_text = codes "tsc: a tail-sampling trace collector\n\n  tsc serve CONFIG     takes requests until it is closed, and prints the spans that it keeps and a report\n  tsc replay CONFIG    runs a script of requests from standard input, and prints the same and its replies\n  tsc compare OLD NEW  runs a script by two configurations, and prints what each keeps and where they differ;\n                       with --json as JSON, with --html as a page\n  tsc validate CONFIG  prints ok, or a line for each fault of the configuration\n  tsc close CONFIG     asks the collector that runs by the configuration to close, and waits for its answer\n  tsc show             prints a request in protobuf, from standard input, as its line of JSON\n  tsc ledger DIR       tells what is in the folder of a ledger; with --script prints the requests that are pending\n                       as a script for tsc replay\n  tsc help             prints this text\n  tsc version          prints the version\n\nCONFIG, OLD and NEW are paths of TOML files. The exit status is 0 where all was done, 1 where a write failed, 2 for wrong\narguments, 3 for a refused configuration, 4 for a refused script or request, 5 for no memory, 6 where the address\ncan't be listened at or the collector doesn't answer that it closes, and 7 for a full book.\n"
 
 -- the last text of each outcome: nothing once a write of the run failed; why a body isn't shown is said elsewhere
 abbrev pub text_of : Outcome → List ℕ

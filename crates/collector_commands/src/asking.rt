@@ -1,6 +1,6 @@
 //! What the program can be asked for, and what its arguments ask for.
 ghost use Rattle.std.specs.Prelude.{◌≡◌, IfSome, IfNone, map, string_bytes};
-ghost use Rattle.collector_commands.specs.Courses.{AsksFor, AsksNothing, asked_alone, asked_by, asked_of_two};
+ghost use Rattle.collector_commands.specs.Courses.{AsksFor, AsksNothing, asked_alone, asked_before, asked_by, asked_of_two};
 
 /// How a comparison is told.
 #[derive(Clone, Copy, PartialEq, Eq)]
@@ -11,6 +11,15 @@ pub enum Form {
     Json,
     /// As a page of HTML.
     Page,
+}
+
+/// How a ledger's folder is told.
+#[derive(Clone, Copy, PartialEq, Eq)]
+pub enum LedgerForm {
+    /// As numbers, a line each.
+    Numbers,
+    /// As a script of the requests that are pending.
+    Script,
 }
 
 /// What the program is asked to do.
@@ -28,6 +37,8 @@ pub enum Command {
     Close,
     /// To show a request in protobuf as JSON.
     Show,
+    /// To tell what is in the folder of a ledger.
+    Ledger(LedgerForm),
     /// To tell what can be asked for.
     Help,
     /// To tell its version.
@@ -48,6 +59,8 @@ tsc: a tail-sampling trace collector
   tsc validate CONFIG  prints ok, or a line for each fault of the configuration
   tsc close CONFIG     asks the collector that runs by the configuration to close, and waits for its answer
   tsc show             prints a request in protobuf, from standard input, as its line of JSON
+  tsc ledger DIR       tells what is in the folder of a ledger; with --script prints the requests that are pending
+                       as a script for tsc replay
   tsc help             prints this text
   tsc version          prints the version
 
@@ -56,7 +69,8 @@ arguments, 3 for a refused configuration, 4 for a refused script or request, 5 f
 can't be listened at or the collector doesn't answer that it closes, and 7 for a full book.
 ";
 
-/// What the arguments ask for, and the paths of the configurations, where there are some: the second one of a comparison.
+/// What the arguments ask for, and the paths, where there are some: of the configuration, or of a ledger's folder; and of
+/// the second configuration of a comparison.
 pub fn asked(arguments: &[String]) -> Option<(Command, &str, &str)>
     ensures some { IfSome result (λ asked. AsksFor (map string_bytes arguments.now) asked.0) }
     ensures none { IfNone result (AsksNothing (map string_bytes arguments.now)) }
@@ -64,7 +78,11 @@ pub fn asked(arguments: &[String]) -> Option<(Command, &str, &str)>
     match arguments {
         [word] => Some((asked_alone(word.as_str())?, "", "")),
         [word, path] => Some((asked_by(word.as_str())?, path.as_str(), "")),
-        [word, old, new] => Some((asked_of_two(word.as_str(), "")?, old.as_str(), new.as_str())),
+        [word, path, last] => Some((
+            asked_before(word.as_str(), last.as_str())?,
+            path.as_str(),
+            last.as_str(),
+        )),
         [word, old, new, form] => Some((
             asked_of_two(word.as_str(), form.as_str())?,
             old.as_str(),
@@ -74,7 +92,20 @@ pub fn asked(arguments: &[String]) -> Option<(Command, &str, &str)>
     }
 }
 
-/// What a word asks for that stands before the paths of two configurations, by the word behind them, if there is one.
+/// What a word asks for that stands before a path and a last word: the second configuration's path, or how a ledger's
+/// folder is told.
+#[tactic(auto, unfolding(crate::specs::Courses::asked_before))]
+fn asked_before(word: &str, last: &str) -> Option<Command>
+    ensures { result ≡ asked_before word.now last.now }
+{
+    match (word, last) {
+        ("compare", _) => Some(Command::Compare(Form::Text)),
+        ("ledger", "--script") => Some(Command::Ledger(LedgerForm::Script)),
+        _ => None,
+    }
+}
+
+/// What a word asks for that stands before the paths of two configurations, by the word behind them.
 #[tactic(auto, unfolding(crate::specs::Courses::asked_of_two))]
 fn asked_of_two(word: &str, form: &str) -> Option<Command>
     ensures { result ≡ asked_of_two word.now form.now }
@@ -100,7 +131,7 @@ fn asked_alone(word: &str) -> Option<Command>
     }
 }
 
-/// What a word asks for that stands before the path of a configuration.
+/// What a word asks for that stands before the path of a configuration, or of a ledger's folder.
 #[tactic(auto, unfolding(crate::specs::Courses::asked_by))]
 fn asked_by(word: &str) -> Option<Command>
     ensures { result ≡ asked_by word.now }
@@ -110,6 +141,7 @@ fn asked_by(word: &str) -> Option<Command>
         "serve" => Some(Command::Serve),
         "validate" => Some(Command::Validate),
         "close" => Some(Command::Close),
+        "ledger" => Some(Command::Ledger(LedgerForm::Numbers)),
         _ => None,
     }
 }

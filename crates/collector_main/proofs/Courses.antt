@@ -1,7 +1,9 @@
 -- How the outcome of what is asked for arises.
 -- For what `run` ensures.
 use Rattle.collector_commands.specs.declared.asking.Command.{Command}
-use Rattle.collector_commands.specs.declared.asking.Command.TheVariants.{Replay, Compare, Serve, Validate, Close, Show, Help, Version}
+use Rattle.collector_commands.specs.declared.asking.Command.TheVariants.{Replay, Compare, Serve, Validate, Close, Show, Ledger, Help, Version}
+use Rattle.collector_commands.specs.declared.asking.LedgerForm.{LedgerForm}
+use Rattle.collector_commands.specs.declared.asking.LedgerForm.TheVariants.{Numbers, Script}
 use Rattle.collector_commands.specs.declared.outcome.Outcome.{Outcome}
 use Rattle.collector_commands.specs.declared.outcome.Outcome.TheVariants as is
 use Rattle.std.specs.Prelude.{◌≡◌, ℕ, List, Option, Result, Ok, Err}
@@ -12,6 +14,9 @@ use Rattle.collector_main.specs.Closing.{FileCloses}
 use Rattle.request_show.specs.declared.body.BodyFault.{BodyFault}
 use Rattle.request_show.specs.declared.body.BodyFault.TheVariants as body_is
 use Rattle.collector_commands.specs.Showing.{BodyShows}
+use Rattle.collector_commands.specs.Ledgers.{LedgerTells}
+use Rattle.ledger_text.specs.declared.look.LedgerLook.{LedgerLook}
+use Rattle.ledger_text.specs.declared.fault.FolderFault.{FolderFault}
 use Rattle.collector_commands.specs.Courses.{Course, AsksFor}
 use Rattle.collector_main.specs.Ending.{CameTo, Does}
 
@@ -31,6 +36,11 @@ unshown (Err body_is.NoMemory) shows = shows
 unshown (Err body_is.Unreadable) shows = shows
 unshown (Err body_is.TooLong) shows = shows
 
+unlooked : (path : List ℕ) (form : LedgerForm) (found : Result LedgerLook FolderFault) → LedgerTells path form found is.Usage → ⊥
+unlooked path Numbers (Ok look) tells = tells
+unlooked path Script (Ok look) tells = tells
+unlooked path form (Err fault) tells = tells
+
 -- nothing that is asked for ends as wrong arguments do
 no-usage : (course : Course) (input : Option (List ℕ)) (command : Command) → Does course input command is.Usage → ⊥
 no-usage course input Replay does = does
@@ -39,6 +49,7 @@ no-usage course input Serve does = does
 no-usage course input Validate does = untold course.file does.0
 no-usage course input Close does = uncalled course.file does.0
 no-usage course input Show does = unshown does.0.0 does.0.2
+no-usage course input (Ledger form) does = unlooked does.0.0 form does.0.1 does.0.2
 no-usage course input Help does = let wrong : is.Usage ≡ is.Help = does.0 in cc
 no-usage course input Version does = let wrong : is.Usage ≡ is.Version = does.0 in cc
 

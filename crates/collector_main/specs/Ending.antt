@@ -4,17 +4,21 @@ use Rattle.collector_commands.specs.declared.outcome.Outcome.{Outcome}
 use Rattle.collector_commands.specs.declared.outcome.Outcome.TheVariants.{Usage, NoMemory}
 use Rattle.collector_commands.specs.declared.outcome.Outcome.TheVariants as is
 use Rattle.collector_commands.specs.declared.asking.Command.{Command}
-use Rattle.collector_commands.specs.declared.asking.Command.TheVariants.{Replay, Compare, Serve, Validate, Close, Show, Help, Version}
+use Rattle.collector_commands.specs.declared.asking.Command.TheVariants.{Replay, Compare, Serve, Validate, Close, Show, Ledger, Help, Version}
 use Rattle.collector_commands.specs.Validating.{FileTells}
 use Rattle.collector_main.specs.Closing.{FileCloses}
 use Rattle.collector_commands.specs.Showing.{InputShows}
+use Rattle.collector_commands.specs.Ledgers.{LedgerTells}
+use Rattle.ledger_text.specs.declared.look.LedgerLook.{LedgerLook}
+use Rattle.ledger_text.specs.declared.fault.FolderFault.{FolderFault}
 use Rattle.collector_commands.specs.declared.configuration.FileFault.{FileFault}
 use Rattle.tsc_script.specs.Reads.{KnownReader}
 use Rattle.collector_commands.specs.Texts.{Finishes}
 use Rattle.collector_commands.specs.Courses.{Course, AsksFor, AsksNothing, NothingDone, Replays, Compares}
 use Rattle.collector_main.specs.Serving.{Serves}
 
--- how an outcome arises by what is asked for; `input` is what standard input has, where that is known
+-- how an outcome arises by what is asked for; `input` is what standard input has, where that is known. What a folder holds
+-- no clause says: what is told of a ledger is told of what was found there, which is looked at after the arguments.
 abbrev pub Does : Course → (input : Option (List ℕ)) → Command → Outcome → Type 0
 Does course input Replay outcome = Replays course outcome
 Does course input (Compare form) outcome = (new_file : Result (List ℕ) FileFault) × Compares course new_file outcome
@@ -22,6 +26,7 @@ Does course input Serve outcome = Serves course outcome
 Does course input Validate outcome = FileTells course.file outcome × NothingDone course
 Does course input Close outcome = FileCloses course.file outcome × NothingDone course
 Does course input Show outcome = InputShows input outcome × NothingDone course
+Does course input (Ledger form) outcome = ((path : List ℕ) × (found : Result LedgerLook FolderFault) × LedgerTells path form found outcome) × NothingDone course
 Does course input Help outcome = (outcome ≡ is.Help) × NothingDone course
 Does course input Version outcome = (outcome ≡ is.Version) × NothingDone course
 

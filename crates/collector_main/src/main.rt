@@ -2,8 +2,8 @@
 //! replay CONFIG` runs a script of requests and moments from standard input in one thread. Both print the spans that
 //! they keep as lines of JSON, which `serve` can send to a backend as well, or instead, and a report of every span's
 //! end; a replay prints its replies, too. `tsc validate CONFIG` prints a line for each fault of a configuration; `tsc
-//! close CONFIG` asks a running collector to close; `tsc show` prints a request in protobuf as JSON; `tsc help` and
-//! `tsc version` print what they say.
+//! close CONFIG` asks a running collector to close; `tsc show` prints a request in protobuf as JSON; `tsc ledger DIR`
+//! tells what is in the folder of a ledger; `tsc help` and `tsc version` print what they say.
 #![tactic(auto)]
 
 mod changed_settings;
@@ -11,6 +11,7 @@ mod closing;
 mod collecting;
 mod keeping;
 mod logging;
+mod looking;
 mod opening;
 mod program;
 mod running;

@@ -5,9 +5,10 @@ ghost use Rattle.collector_main.specs.Ending.{CameTo, Ends};
 
 use crate::closing::close_by;
 use crate::collecting::serve_by;
+use crate::looking::{look_into, say_ledger};
 use collector_commands::{
     Command, Outcome, Surroundings, TEXT_ROOM, asked, compare_by, finish, read_file, replay_by,
-    show_by, told_of, without_memory,
+    show_by, tell_ledger, told_of, without_memory,
 };
 use pipeline::Machine;
 use std::alloc::Global;
@@ -94,9 +95,17 @@ where
             )
         }
         Command::Serve => serve_by(rt, alloc, path, read_file(rt, alloc, path), around, writer),
-        Command::Validate => (writer, told_of(alloc, path, read_file(rt, alloc, path))),
+        Command::Validate => {
+            let outcome = told_of(alloc, path, read_file(rt, alloc, path));
+            say_ledger(rt, alloc, path, around.errors);
+            (writer, outcome)
+        }
         Command::Close => (writer, close_by(rt, alloc, read_file(rt, alloc, path))),
         Command::Show => (writer, show_by(alloc, around)),
+        Command::Ledger(form) => {
+            let found = look_into(rt, alloc, path, form);
+            (writer, tell_ledger(alloc, path, form, found, around.errors))
+        }
         Command::Help => (writer, Outcome::Help),
         Command::Version => (writer, Outcome::Version),
     }

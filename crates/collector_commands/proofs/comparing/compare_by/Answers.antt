@@ -1,5 +1,5 @@
 -- What a comparison came to, where both configurations were read and both runs came to their reports.
-use Rattle.std.proofs.Common.{List, ℕ, Option, refl}
+use Rattle.std.proofs.Common.{refl}
 use Rattle.collector_commands.specs.Configuration.{file_of}
 use Rattle.collector_commands.specs.Courses.{Course}
 use Rattle.collector_commands.proofs.Compared.{compares_told}

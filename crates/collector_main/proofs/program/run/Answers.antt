@@ -4,7 +4,7 @@ use Rattle.collector_commands.specs.Configuration.{file_of}
 use Rattle.collector_commands.specs.Courses.{AsksFor}
 use Rattle.collector_commands.specs.declared.configuration.FileFault.TheVariants.{Unreadable}
 use Rattle.collector_commands.specs.declared.configuration.ReadFault.TheVariants.{Other}
-use Rattle.collector_commands.specs.declared.asking.Command.TheVariants.{Replay, Compare, Serve, Validate, Close, Show, Help, Version}
+use Rattle.collector_commands.specs.declared.asking.Command.TheVariants.{Replay, Compare, Serve, Validate, Close, Show, Ledger, Help, Version}
 use Rattle.collector_main.proofs.Courses.{CameTo-does}
 use Rattle.collector_main.proofs.program.run.Goals as goal
 
@@ -48,6 +48,12 @@ returns-in-Show g c =
     let arguments = map string_bytes c.args.arguments.now in
     let asked = subst (λ command. AsksFor arguments command) c.in-Show.is c.in-Some.ensures.some in
     (Err (Unreadable Other), CameTo-does _ _ Show c.show_by.result asked (c.show_by.ensures, (refl, refl)))
+
+pub returns-in-Ledger : goal.returns-in-Ledger
+returns-in-Ledger g c =
+    let arguments = map string_bytes c.args.arguments.now in
+    let asked = subst (λ command. AsksFor arguments command) c.in-Ledger.is c.in-Some.ensures.some in
+    (Err (Unreadable Other), CameTo-does _ _ (Ledger c.in-Ledger.form) c.tell_ledger.result asked ((_, c.look_into.result, c.tell_ledger.ensures), (refl, refl)))
 
 pub returns-in-Help : goal.returns-in-Help
 returns-in-Help g c =
