@@ -1,3 +1,4 @@
 pub mod Fronts
 pub mod Lefts
+mod Rows
 pub mod Walks
