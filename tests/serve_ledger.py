@@ -114,7 +114,7 @@ def refused_by_name(start):
         missing, file_there, config = (os.path.join(folder, it) for it in ("missing", "file", "config.toml"))
         with open(file_there, "w", encoding="utf-8") as file:
             file.write("x")
-        for path, why in [(missing, "does not exist"), (file_there, "is not a directory"), (os.path.join(file_there, "x"), "is not a directory")]:
+        for path, why in [(missing, "does not exist"), ("", "does not exist"), (file_there, "is not a directory"), (os.path.join(file_there, "x"), "is not a directory")]:
             for words in ([path], [path, "--script"]):
                 want(f"what is told of {path}", asked(start, "ledger", *words), (4, b"", f"tsc: ledger refused: {path}: {why}\n"))
         empty = os.path.join(folder, "empty")

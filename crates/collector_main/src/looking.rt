@@ -20,6 +20,10 @@ pub fn look_into<T: Files<File = File> + Copy>(
     path: &str,
     form: LedgerForm,
 ) -> Result<LedgerLook, FolderFault> {
+    // It would be the folder at the root.
+    if path.is_empty() {
+        return Err(fault_of(ErrorKind::NotFound));
+    }
     for _ in 0..TRIES {
         let folder = opened(LedgerFolder::look(rt, alloc, path))?;
         let files = opened(folder.files())?;
