@@ -35,7 +35,7 @@ pub returns-in-Validate : goal.returns-in-Validate
 returns-in-Validate g c =
     let arguments = map string_bytes c.args.arguments.now in
     let asked = subst (λ command. AsksFor arguments command) c.in-Validate.is c.in-Some.ensures.some in
-    (file_of (λ v. v.items) c.read_file-in-Validate.result, CameTo-does _ _ Validate c.told_of.result asked (c.told_of.ensures, (refl, refl)))
+    (file_of (λ v. v.items) c.read_file-in-Validate.result, CameTo-does _ _ Validate c.told_of-outcome.result asked (c.told_of-outcome.ensures, (refl, refl)))
 
 pub returns-in-Close : goal.returns-in-Close
 returns-in-Close g c =
@@ -53,7 +53,7 @@ pub returns-in-Ledger : goal.returns-in-Ledger
 returns-in-Ledger g c =
     let arguments = map string_bytes c.args.arguments.now in
     let asked = subst (λ command. AsksFor arguments command) c.in-Ledger.is c.in-Some.ensures.some in
-    (Err (Unreadable Other), CameTo-does _ _ (Ledger c.in-Ledger.form) c.tell_ledger.result asked ((_, c.look_into.result, c.tell_ledger.ensures), (refl, refl)))
+    (Err (Unreadable Other), CameTo-does _ _ (Ledger c.in-Ledger.form) c.tell_ledger.result asked ((_, c.look_into-found.result, c.tell_ledger.ensures), (refl, refl)))
 
 pub returns-in-Help : goal.returns-in-Help
 returns-in-Help g c =
