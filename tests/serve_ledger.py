@@ -80,8 +80,8 @@ def told_as_it_is(start):
 
 
 def told_while_it_runs(start):
-    """The folder of a collector that runs is told, and the collector goes on; and so is one of several runs, whose connections stay apart in the script. What was cut is
-    told as cut."""
+    """The folder of a collector that runs is told, and the collector goes on; and so is one of a second run, which has taken again all that the first one left. What was cut
+    is told as cut."""
     with tempfile.TemporaryDirectory() as folder:
         lives = Lives(start, folder, TAKEN + "lanes = 2\n" + ALL)
         collector, began = lives.begin(LONG), time.monotonic()
