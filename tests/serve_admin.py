@@ -217,15 +217,20 @@ def in_charge_by_a_socket(start):
 
 
 def nameless_policies(start):
-    """What policies without a name decided is told with what none decided, each trace once."""
-    admin = free_port()
+    """What a policy without a name decided is told by its place, apart from what none decided; so is the one that `sample_on_first_match` makes."""
     of = lambda name, code: f'{{ name = "{name}", type = "status_code", status_code = {{ status_codes = ["{code}"] }} }}'
-    collector = start(f'admin = "127.0.0.1:{admin}"\ntick_ms = 50\ndecision_wait_ms = 50\npolicies = [{of("e", "ERROR")}, {of("", "OK")}]\n')
     codes = [2] * 2 + [1] * 3 + [0] * 4
-    collector.ask(post(body_of([{"traceId": f"{at + 1:032x}", "spanId": f"{9:016x}", "status": {"code": code}} for at, code in enumerate(codes)])))
-    comes_to("the decisions", lambda: decided_of(scrape(admin), "e"), [2, 0, 3, 4])
-    want("the answer to /close", asked(admin, post(b"", "/close"))[::2], (200, "{}"))
-    want("the report", collector.end()[1], [9, 5, 0, 0, 0, 0, 4, 0, 0])
+    spans = [{"traceId": f"{at + 1:032x}", "spanId": f"{9:016x}", "status": {"code": code}} for at, code in enumerate(codes)]
+    told = lambda numbers, place: [numbers.get(f'tsc_traces_decided_total{{policy="",place="{place}",decision="{it}"}}') for it in ("sampled", "not_sampled")]
+    for more, of_none, of_places in (("", [0, 4], [None, None, 3, 0]), ("sample_on_first_match = true\n", [0, 4], [5, 0, None, None])):
+        admin = free_port()
+        collector = start(f'admin = "127.0.0.1:{admin}"\ntick_ms = 50\ndecision_wait_ms = 50\n{more}policies = [{of("e", "ERROR")}, {of("", "OK")}]\n')
+        collector.ask(post(body_of(spans)))
+        comes_to("the decisions of none", lambda: decided_of(scrape(admin), "")[2:], of_none)
+        numbers = scrape(admin)
+        want("the decisions by place", told(numbers, 0) + told(numbers, 1), of_places)
+        want("the answer to /close", asked(admin, post(b"", "/close"))[::2], (200, "{}"))
+        want("the report", collector.end()[1], [9, 5, 0, 0, 0, 0, 4, 0, 0])
 
 
 def told_at_the_tick(start):

@@ -8,6 +8,7 @@ import random
 import re
 import subprocess
 import tempfile
+import threading
 import time
 
 from collector import ALL, ERRORS, ERROR_SPAN, PATIENCE, LeftOut, body_of, comes_to, free_port, post, spans_of, want
@@ -140,6 +141,46 @@ def settled_order_replays(start):
     want("what a replay prints", replayed(start, settings, lines), (printed, numbers))
 
 
+def is_the_run_that_happened(start):
+    """With one lane and one shard a record is the run that happened, also under load: with ticks a few milliseconds apart, traces whose spans come over many
+    requests of six connections, while some are decided, late, evicted or beyond a limit, a replay prints the same lines in the same order, and counts the
+    same."""
+    settings = KEPT + "lanes = 1\nshards = 1\ntick_ms = 3\ndecision_wait_ms = 15\nnum_traces = 60\nsend_batch_size = 1\n"
+    settings += "decision_cache = { sampled_cache_size = 20, non_sampled_cache_size = 10 }\n"
+    settings += 'policies = [{ name = "errors", type = "status_code", status_code = { status_codes = ["ERROR"] } }, '
+    settings += '{ name = "some", type = "rate_limiting", rate_limiting = { spans_per_second = 300 } }]\n'
+    with tempfile.TemporaryDirectory() as folder:
+        path = os.path.join(folder, "came.txt")
+        collector = start(f'record = "{path}"\n' + settings)
+        clients = [threading.Thread(target=sends_mixed, args=(collector.client(), number)) for number in range(6)]
+        for client in clients:
+            client.start()
+        for client in clients:
+            client.join()
+        printed, numbers = collector.close()
+        lines = lines_of([path])
+    want("how many requests", len(parsed(lines)[0]), 6 * 100)
+    kept, counted = replayed(start, settings, lines)
+    want("the numbers", counted, numbers)
+    # Evicted, not sampled, and late: each of them is tried.
+    want("whether all ends are met", [number > 0 for number in numbers], [True, True, False, False, False, True, True, True, False])
+    want("the first line that differs", next((pair for pair in enumerate(zip(kept, printed)) if pair[1][0] != pair[1][1]), None), None)
+    want("how many lines", len(kept), len(printed))
+
+
+def sends_mixed(client, number):
+    """Sends a hundred requests, each of thirty spans of traces that others send spans of at the same time."""
+    luck = random.Random(number)
+    for request in range(100):
+        spans = []
+        for place in range(30):
+            trace = request * 4 + luck.randrange(40) + 1
+            span = {"traceId": f"{trace:032x}", "spanId": f"{number * 1_000_000 + request * 100 + place + 1:016x}"}
+            spans.append({**span, "status": {"code": 2}} if luck.randrange(200) == 0 else span)
+        client.send(post(body_of(spans)))
+        client.answer()
+
+
 def refused_requests_are_not_recorded(start):
     """A request that is refused has no line: one that is no JSON or no protobuf, of a broken packing, too long, or at another path. One without a span has its line,
     and one whose span isn't taken, too."""
@@ -258,5 +299,5 @@ def nothing_without_the_key(start):
         want("what the folder has", os.listdir(folder), ["came.txt"])
 
 
-CHECKS = [a_record_replays, settled_order_replays, refused_requests_are_not_recorded, too_long_for_a_line, record_is_rotated]
+CHECKS = [a_record_replays, settled_order_replays, is_the_run_that_happened, refused_requests_are_not_recorded, too_long_for_a_line, record_is_rotated]
 CHECKS += [record_cannot_be_written, record_of_a_full_disk, nothing_without_the_key]

@@ -551,6 +551,38 @@ def syncs_as_it_is_told(start):
             collector.close()
 
 
+def shared_syncs(start):
+    """Requests that come over many connections of a lane while it syncs share the next sync, each behind it; where that one fails none is answered 200."""
+    with tempfile.TemporaryDirectory() as folder:
+        path = os.path.join(folder, "syncs")
+        settings = ALL + f'lanes = 1\n[ledger]\npath = "{folder}/ledger"\nsync = "request"\n'
+        collector = start(settings, surroundings={"LD_PRELOAD": library_of("counted_syncs", folder), "SYNCS": path, "SYNC_MS": "100"})
+        clients = [collector.client() for _ in range(32)]
+        for fails in (False, True):
+            if fails:
+                with open(path + ".fails", "w", encoding="utf-8"):
+                    pass
+            before = bytes_at(path)
+            for client in clients:
+                client.send(post(body_of([ERROR_SPAN])))
+            if fails:
+                want("answers 200 where syncs fail", [status for status in map(status_or_end, clients) if status == 200], [])
+            else:
+                want("the answers", [client.answer()[0] for client in clients], [200] * 32)
+                want("whether they shared syncs", 0 < bytes_at(path) - before <= 16, True)
+        os.remove(path + ".fails")
+        until("requests are answered again", lambda: is_taken(collector))
+        collector.close()
+
+
+def status_or_end(client):
+    """The status of a client's answer, or None if its connection ended without one."""
+    try:
+        return client.answer()[0]
+    except (Failure, OSError):
+        return None
+
+
 def fails_where_syncs_fail(collector, fails):
     """While syncs fail no request is answered 200: its connection ends, or it is answered 503."""
     with open(fails, "w", encoding="utf-8"):
@@ -623,7 +655,7 @@ def over_a_backend(start):
 
 
 CHECKS = [nothing_answered_is_lost, closed_before_all_is_taken, refused_ones_stay, into_short_queues, counted_ones_are_over, errors_and_late_spans, segments_go, full_ledger_answers_busy, full_disk, cut_at_every_byte, one_byte_turned, machine_crashes]
-CHECKS += [syncs_as_it_is_told, no_ledger_no_folder, ledger_cannot_be_made, over_a_backend]
+CHECKS += [syncs_as_it_is_told, shared_syncs, no_ledger_no_folder, ledger_cannot_be_made, over_a_backend]
 
 
 def main():

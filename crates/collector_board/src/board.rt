@@ -5,17 +5,19 @@ use crate::decision_queue::DecisionQueue;
 use crate::export_progress::ExportProgress;
 use crate::ledger_desk::LedgerDesk;
 use crate::record_queue::RecordQueue;
+use crate::tick_gate::TickGate;
 use crate::trace_questions::TraceQuestions;
 use batch_post::AttemptOutcome;
 use drop_ledger::{Count, Report};
 use event_log::Level;
 use lane_queue::Brake;
 use metrics_text::{PolicyNumbers, ShardNumbers};
-use otlp_types::{Text, TryClone};
 use policy_tree::Policies;
 use request_keeping::RequestLedger;
 use std::alloc::{AllocError, Global};
+use std::sync::Wait;
 use std::sync::atomic::{AtomicBool, AtomicU64, Ordering};
+use std::time::Clock;
 
 /// The number of counts in a report.
 const PLACES: usize = 9;
@@ -72,6 +74,8 @@ pub struct Board {
     export: ExportProgress,
     /// Where what came waits until it is written, if it is.
     record: Option<RecordQueue>,
+    /// Where ticks and requests meet, if what comes is written.
+    gate: Option<TickGate>,
     /// What is told to the ledger, where there is one.
     pub(crate) ledger: LedgerDesk,
     /// Requests are refused, and spans are, since memory is short.
@@ -118,6 +122,7 @@ impl Board {
             questions: TraceQuestions::new(alloc, shards),
             export: ExportProgress::new(),
             record: None,
+            gate: None,
             ledger: LedgerDesk::new(),
             is_short: AtomicBool::new(false),
             is_shorter: AtomicBool::new(false),
@@ -132,12 +137,43 @@ impl Board {
     /// From now on what comes to so many lanes is kept until it is taken.
     pub fn keep_record(&mut self, alloc: Global, lanes: u64) -> Result<(), AllocError> {
         self.record = Some(RecordQueue::new(alloc, lanes)?);
+        self.gate = Some(TickGate::new());
         Ok(())
     }
 
     /// Where what came waits until it is written, if it is.
     pub fn record_queue(&self) -> Option<&RecordQueue> {
         self.record.as_ref()
+    }
+
+    /// Where ticks and requests meet, if what comes is written.
+    pub fn gate(&self) -> Option<&TickGate> {
+        self.gate.as_ref()
+    }
+
+    /// A tick is to be told: with a record each request is taken whole before it, or behind it (D-527).
+    pub fn begin_tick<R: Wait + Clock>(&self, rt: &R) {
+        if let Some(gate) = &self.gate {
+            gate.shut(rt);
+            gate.wait_for(rt, self.shards.len() as u64, self.pushed());
+        }
+    }
+
+    /// The tick was told to every shard.
+    pub fn end_tick<R: Wait + Clock>(&self, rt: &R) {
+        if let Some(gate) = &self.gate {
+            gate.ticks();
+            gate.wait_for(rt, self.shards.len() as u64, self.pushed());
+            gate.open();
+        }
+    }
+
+    /// How many spans lanes have pushed to shards.
+    fn pushed(&self) -> u64 {
+        let invalid = self.invalid_id.load(Ordering::Relaxed);
+        let refused = self.queue_full.load(Ordering::Relaxed);
+        let received = self.received.load(Ordering::Relaxed);
+        received.saturating_sub(invalid.saturating_add(refused))
     }
 
     /// From now on there is this ledger.
@@ -333,30 +369,16 @@ impl Board {
         (lines, self.output_bytes.load(Ordering::Relaxed))
     }
 
-    /// How many traces each policy decided; behind all, without a name, how many none decided, and one without a name.
+    /// How many traces each policy decided, and behind all how many none did.
     pub fn decisions(&self, alloc: Global) -> Result<Vec<PolicyNumbers>, AllocError> {
         let mut numbers = Vec::new(alloc);
-        let mut unnamed = PolicyNumbers {
-            name: Text::new(alloc),
-            sampled: 0,
-            not_sampled: 0,
+        let Some((none, policies)) = self.policies.split_first() else {
+            return Ok(numbers);
         };
-        for cells in &self.policies {
-            let sampled = cells.sampled.load(Ordering::Relaxed);
-            let not_sampled = cells.not_sampled.load(Ordering::Relaxed);
-            // No two samples may have the same labels, so these are told with what none decided (D-193).
-            if cells.name.as_str().is_empty() {
-                unnamed.sampled = unnamed.sampled.saturating_add(sampled);
-                unnamed.not_sampled = unnamed.not_sampled.saturating_add(not_sampled);
-            } else {
-                numbers.push(PolicyNumbers {
-                    name: cells.name.try_clone(alloc)?,
-                    sampled,
-                    not_sampled,
-                })?;
-            }
+        for place in 0..policies.len() {
+            numbers.push(policies[place].numbers(alloc, Some(place))?)?;
         }
-        numbers.push(unnamed)?;
+        numbers.push(none.numbers(alloc, None)?)?;
         Ok(numbers)
     }
 

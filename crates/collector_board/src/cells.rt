@@ -1,8 +1,9 @@
 //! What is told of a shard and of a policy while a run goes on.
+use metrics_text::PolicyNumbers;
 use otlp_types::{Text, TryClone};
 use policy_tree::Policies;
 use std::alloc::{AllocError, Global};
-use std::sync::atomic::AtomicU64;
+use std::sync::atomic::{AtomicU64, Ordering};
 
 /// What a shard told last of what it holds.
 #[derive(Drop)]
@@ -41,6 +42,27 @@ impl PolicyCells {
             sampled: AtomicU64::new(0),
             not_sampled: AtomicU64::new(0),
         }
+    }
+
+    /// What it decided. One without a name is told by its place, if it has one: no two samples may have the same labels
+    /// (D-434).
+    pub fn numbers(
+        &self,
+        alloc: Global,
+        place: Option<usize>,
+    ) -> Result<PolicyNumbers, AllocError> {
+        let name = self.name.try_clone(alloc)?;
+        let place = if name.as_str().is_empty() {
+            place
+        } else {
+            None
+        };
+        Ok(PolicyNumbers {
+            name,
+            place,
+            sampled: self.sampled.load(Ordering::Relaxed),
+            not_sampled: self.not_sampled.load(Ordering::Relaxed),
+        })
     }
 }
 

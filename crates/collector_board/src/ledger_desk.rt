@@ -59,6 +59,22 @@ impl LedgerDesk {
         }
     }
 
+    /// Whether answers wait for what was kept to be synced.
+    pub fn syncs(&self) -> bool {
+        match &self.ledger {
+            Some(ledger) => ledger.syncs(),
+            None => false,
+        }
+    }
+
+    /// Syncs what this lane kept; `false`: that failed.
+    pub fn commit<R: Wait>(&self, rt: &R, lane: usize) -> bool {
+        match &self.ledger {
+            Some(ledger) => ledger.commit(rt, lane),
+            None => true,
+        }
+    }
+
     /// A shard has decided a trace.
     pub fn decided<R: Wait>(&self, rt: &R, decided: &DecidedTrace) {
         self.tell(

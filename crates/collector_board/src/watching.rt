@@ -6,9 +6,15 @@ use decision_line::{DecidedTrace, EvictedTrace, LateSpans, Said, TraceHeld};
 use span_ids::{Moment, SpanId, TraceId};
 use std::sync::Wait;
 use std::sync::atomic::Ordering;
-use thread_watch::{Barrier, ShardLoad, Watcher};
+use thread_watch::{Barrier, ShardLoad, ThreadPlace, Watcher};
 
-impl Barrier for Board {}
+impl Barrier for Board {
+    fn reach(&self, place: ThreadPlace) {
+        if let (Some(gate), ThreadPlace::Taken { .. }) = (self.gate(), place) {
+            gate.takes();
+        }
+    }
+}
 
 impl Watcher for Board {
     fn counted(&self, place: usize, spans: u64) {

@@ -82,7 +82,8 @@ fn print_with<'s, T: Net + Machine, W: Write + Drop>(
     ensures { PrintsTo config (W.contents writer) (W.contents result.0) result.1 }
 {
     // Made before the run: a lane that can't watch its connections is an address that can't be listened at (D-175).
-    let drivers = match drivers(rt, alloc, &config, listener, &shared.loads, &shared.stop) {
+    let (loads, stop) = (&shared.loads, &shared.stop);
+    let drivers = match drivers(rt, alloc, &config, listener, loads, stop, shared) {
         Ok(drivers) => drivers,
         Err(error) if error.kind() == ErrorKind::OutOfMemory => return (writer, Outcome::NoMemory),
         Err(_) => return (writer, Outcome::CannotListen),

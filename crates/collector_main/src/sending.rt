@@ -38,7 +38,8 @@ pub fn send_with<'s, T: Net<Listener = TcpListener, Stream = TcpStream> + Machin
     requires { InRange config }
     ensures { SendsTo config (W.contents writer) (W.contents result.0) result.1 }
 {
-    let drivers = match drivers(rt, alloc, &config, listener, &shared.loads, &shared.stop) {
+    let (loads, stop) = (&shared.loads, &shared.stop);
+    let drivers = match drivers(rt, alloc, &config, listener, loads, stop, shared) {
         Ok(drivers) => drivers,
         Err(error) if error.kind() == ErrorKind::OutOfMemory => return (writer, Outcome::NoMemory),
         Err(_) => return (writer, Outcome::CannotListen),

@@ -11,7 +11,7 @@ use collector_board::{Board, Closer, OutputStall, REMEMBERED, StopMark, left_by}
 use decision_json::{decisions_text, trace_text};
 use decision_line::TraceHeld;
 use http_lane::{Clock as Moments, HasStopMark};
-use lane_driver::Loads;
+use lane_driver::{Loads, RoundKeeper};
 use metrics_text::{LedgerCounts, Metrics, metrics_text, put_ledger};
 use otlp_types::Text;
 use output_file::ReopenMark;
@@ -61,6 +61,28 @@ pub struct Charge {
     pub page_fields: Text,
     /// The counts of the last minutes.
     pub history: History,
+}
+
+impl RoundKeeper for Charge {
+    fn holds_answers(&self) -> bool {
+        self.board.ledger().syncs()
+    }
+
+    fn commit<R: Wait>(&self, rt: &R, lane: usize) -> bool {
+        self.board.ledger().commit(rt, lane)
+    }
+
+    fn begin<R: Wait + Clock>(&self, rt: &R) {
+        if let Some(gate) = self.board.gate() {
+            gate.enter(rt);
+        }
+    }
+
+    fn end(&self) {
+        if let Some(gate) = self.board.gate() {
+            gate.leave();
+        }
+    }
 }
 
 impl Charge {

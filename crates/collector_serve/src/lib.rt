@@ -4,7 +4,7 @@
 //!
 //! ```
 //! let listener = listen(&rt, alloc, "127.0.0.1:4318")?;
-//! let lanes = drivers(&rt, alloc, &config, &listener, &charge.loads, &charge.stop)?;
+//! let lanes = drivers(&rt, alloc, &config, &listener, &charge.loads, &charge.stop, &charge)?;
 //! let (sink, answer, not_begun) = serve_on(&context, config, lanes, sink);
 //! ```
 #![tactic(auto)]

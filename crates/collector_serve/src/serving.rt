@@ -12,7 +12,7 @@ use collector_board::Board;
 use drop_ledger::Report;
 use http_lane::{Clock as Moments, HasStopMark};
 use http_text::Allowed;
-use lane_driver::{ConnectionShare, Loads, TurnDriver};
+use lane_driver::{ConnectionShare, Loads, RoundKeeper, TurnDriver};
 use lane_turns::Driver;
 use lane_worker::ByTurns;
 use pipeline::{Machine, RunContext, ServeFault, run_by_turns_to};
@@ -101,9 +101,7 @@ pub fn serve_on<
     ensures begun { is_none result.2 ≡ has_begun result.1 }
     ensures back { IfSome result.2 (λ back. back.items ≡ drivers.items) }
 {
-    let ticks = Ticker::new(config.tick, context.clock, context.stop).recording(
-        context.observer.record_queue(),
-    );
+    let ticks = Ticker::new(config.tick, context.clock, context.stop).recording(context.observer);
     let (destination, answer, back) = run_by_turns_to(context, config, drivers, ticks, destination);
     let back = match back {
         Some((drivers, _)) => Some(drivers),
@@ -141,15 +139,17 @@ fn allowed_by(config: &Config) -> Allowed
 }
 
 /// What drives each lane, and what is allowed to its clients. Each has its share of the connections that may be open at
-/// once. `Err`: there is no memory, or too many files are open for a lane to watch its connections.
-pub fn drivers<'l, P: HasStopMark, R: Net + Clock>(
+/// once, and a keeper that is told of its rounds. `Err`: there is no memory, or too many files are
+/// open for a lane to watch its connections.
+pub fn drivers<'l, P: HasStopMark, K: RoundKeeper, R: Net + Clock>(
     rt: &R,
     alloc: Global,
     config: &Config,
     listener: &'l TcpListener,
     loads: &Arc<Loads, Global>,
     stop: &'l P,
-) -> io::Result<Vec<ByTurns<TurnDriver<'l, P>>>>
+    keeper: &'l K,
+) -> io::Result<Vec<ByTurns<TurnDriver<'l, P, K>>>>
     requires { 0 < config.now.lanes }
     ensures lanes { IfOk result (λ drivers. vec_len drivers ≡ config.now.lanes) }
     ensures shares { IfOk result (λ drivers. All (λ it. it.driver.links.limit ≡ share_of config.now.max_connections config.now.lanes) drivers.items) }
@@ -163,7 +163,7 @@ pub fn drivers<'l, P: HasStopMark, R: Net + Clock>(
         let loads = Arc::try_clone(loads)?;
         let share = ConnectionShare { limit, loads, lane };
         // Made before the lanes run, so that no run ends for want of files at its start (D-175).
-        let driver = TurnDriver::new(rt, alloc, listener, stop, share)?;
+        let driver = TurnDriver::new(rt, alloc, listener, stop, keeper, share)?;
         drivers.push(ByTurns { driver, allowed })?;
     }
     Ok(drivers)

@@ -2,10 +2,12 @@
 -- No clause needs them: they show the definitions, which code and contracts follow.
 use Rattle.std.proofs.Common.{◌≡◌, ◌∷◌, [], refl}
 use Rattle.std.specs.Prelude.{codes}
-use Rattle.std.specs.Prelude.{true, false, Some, None}
+use Rattle.std.specs.Prelude.{true, false, Some, None, map}
 use Rattle.lane_turns.specs.declared.table.Leaving.TheVariants.{ReadFailed, WriteFailed}
 use Rattle.lane_driver.specs.declared.link.Phase.TheVariants.{Serving, Closing, Lingering}
 use Rattle.lane_driver.specs.declared.link.Looked.TheVariants.{Waits, Over, Leaves, HasTurn}
+use Rattle.lane_driver.specs.declared.rounds.Sending.TheVariants.{Now, Later, Never}
+use Rattle.lane_driver.specs.Rounds.{after_commit, sending, starts}
 use Rattle.lane_driver.specs.Looks.{looked, since_put}
 use Rattle.lane_driver.specs.Taking.{leaves_by, taken_from}
 
@@ -35,3 +37,11 @@ under_way = refl
 -- behind its last answer: while the collector closes, once its time is over, as it is cut, and while it lingers
 last : looked Closing false false 10 9 (Some 50) ∷ looked Closing true true 10 10 None ∷ looked (Lingering 3) true true 10 9 (Some 8) ∷ looked (Lingering 3) true true 10 9 None ∷ [] ≡ Waits 10 ∷ Over ∷ Over ∷ Waits 10 ∷ []
 last = refl
+
+-- in the third round, where the commit of the first has failed: answers that wait for none, and those of each round
+rounds : map (sending (record { now = 3; lost = 1; waits = true })) (0 ∷ 1 ∷ 2 ∷ 3 ∷ []) ≡ Now ∷ Never ∷ Now ∷ Later ∷ []
+rounds = refl
+
+-- the first round is committed; that fails, and then the second one is
+commits : after_commit true starts ∷ after_commit true (after_commit false starts) ∷ [] ≡ record { now = 2; lost = 0; waits = false } ∷ record { now = 3; lost = 1; waits = false } ∷ []
+commits = refl

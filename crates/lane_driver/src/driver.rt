@@ -6,7 +6,8 @@ ghost use Rattle.lane_driver.specs.Heard.{AllStay, Hears, MayEnd, PutsText, Send
 use crate::link::{ConnectionSocket, Got, Looked, Phase, SocketStep, TurnResult};
 use crate::links::{Links, leaves_by};
 use crate::loads::ConnectionShare;
-use crate::readiness::{Accepted, EVENTS, NAP, Readiness, Ready};
+use crate::readiness::{Accepted, NAP, Readiness};
+use crate::rounds::{RoundKeeper, Rounds, Sending};
 use crate::walk::Walk;
 use http_lane::{HasStopMark, IDLE_LIMIT, ServeEnd};
 use lane_turns::{Done, Driver, Leaving, Next};
@@ -19,9 +20,6 @@ use std::time::Clock;
 
 /// The most reads of a connection at a turn: a request of 100 kB is then read at one, and its memory serves the next.
 const READS: usize = 16;
-
-/// The longest time that requests under way have once the mark to stop is set, in milliseconds (D-177).
-const STOP_LIMIT: u64 = 1_000;
 
 /// What follows.
 #[derive(Clone, Copy)]
@@ -37,38 +35,44 @@ enum Follows {
 /// Drives a lane by the readiness of its connections, which it takes from a listener that doesn't block. Several lanes
 /// may share the listener: each connection goes to one of them.
 #[derive(Drop)]
-pub struct TurnDriver<'l, P: HasStopMark> {
-    alloc: Global,
-    stop: &'l P,
-    readiness: Readiness<'l>,
-    links: Links,
+pub struct TurnDriver<'l, P: HasStopMark, K: RoundKeeper> {
+    pub(crate) alloc: Global,
+    pub(crate) stop: &'l P,
+    pub(crate) keeper: &'l K,
+    pub(crate) lane: usize,
+    pub(crate) rounds: Rounds,
+    /// Whether a round is under way.
+    pub(crate) is_inside: bool,
+    pub(crate) readiness: Readiness<'l>,
+    pub(crate) links: Links,
     /// How many of them are served before it is asked again which are ready.
-    to_serve: usize,
+    pub(crate) to_serve: usize,
     /// The place of the one that is being served, and how many reads it still has.
-    current: Option<usize>,
-    reads: usize,
+    pub(crate) current: Option<usize>,
+    pub(crate) reads: usize,
     /// The place of the one of which the lane was told last.
-    told: usize,
+    pub(crate) told: usize,
     /// The socket that was taken from the listener; the key of a connection that the lane has without a link.
-    arrived: Option<TcpStream>,
-    orphan: Option<usize>,
+    pub(crate) arrived: Option<TcpStream>,
+    pub(crate) orphan: Option<usize>,
     /// Whether connections may wait at the listener, since when at the earliest, and how many more are taken now.
-    may_take: bool,
-    since: u64,
-    to_take: usize,
-    walk: Walk,
+    pub(crate) may_take: bool,
+    pub(crate) since: u64,
+    pub(crate) to_take: usize,
+    pub(crate) walk: Walk,
     /// The moment from which on no request goes on, once the mark to stop is set.
-    stopping: Option<u64>,
-    now: u64,
+    pub(crate) stopping: Option<u64>,
+    pub(crate) now: u64,
 }
 
-impl<'l, P: HasStopMark> TurnDriver<'l, P> {
+impl<'l, P: HasStopMark, K: RoundKeeper> TurnDriver<'l, P, K> {
     /// One with no connection.
     pub fn new<R: Net + Clock>(
         rt: &R,
         alloc: Global,
         listener: &'l TcpListener,
         stop: &'l P,
+        keeper: &'l K,
         share: ConnectionShare,
     ) -> io::Result<Self>
         ensures { IfOk result (λ driver. driver.links.limit ≡ share.limit) }
@@ -77,6 +81,10 @@ impl<'l, P: HasStopMark> TurnDriver<'l, P> {
         Ok(TurnDriver {
             alloc,
             stop,
+            keeper,
+            lane,
+            rounds: Rounds::new(),
+            is_inside: false,
             readiness: Readiness::new(rt, alloc, listener)?,
             links: Links::new(alloc, limit, loads, lane),
             to_serve: 0,
@@ -132,17 +140,21 @@ impl<'l, P: HasStopMark> TurnDriver<'l, P> {
     fn serve(&mut self, place: usize, piece: &mut [u8]) -> Follows
         ensures { (next : Next) → result ≡ Follows.Do next → FitsNext next (length piece.old) }
     {
-        let (now, reads) = (self.now, self.reads);
+        let (now, reads, rounds) = (self.now, self.reads, self.rounds);
         let Some(link) = self.links.get_mut(place) else {
             self.current = None;
             return Follows::On;
         };
-        let step = match link.phase {
-            Phase::Lingering { left } => link.drain(piece, left),
-            Phase::Closing => link.close(now),
-            Phase::Serving => {
-                let key = link.key;
-                if !link.flush(now) {
+        let (key, sending) = (link.key, rounds.sending(link.round));
+        let step = match (link.phase, sending) {
+            (Phase::Lingering { left }, _) => link.drain(piece, left),
+            // Behind those that are to be served in this round: its commit comes first (D-526).
+            (_, Sending::Later) => SocketStep::GoesOn,
+            (Phase::Closing, Sending::Never) => SocketStep::Over,
+            (Phase::Closing, Sending::Now) => link.close(&rounds, now),
+            (Phase::Serving, Sending::Never) => return self.leave(place, key, Leaving::WriteFailed),
+            (Phase::Serving, Sending::Now) => {
+                if !link.flush(&rounds, now) {
                     return self.leave(place, key, Leaving::WriteFailed);
                 }
                 match link.before_read(reads) {
@@ -325,48 +337,6 @@ impl<'l, P: HasStopMark> TurnDriver<'l, P> {
         }
     }
 
-    /// Waits until something is ready, or the next deadline, `NAP` at most: so no thread has to wake another (D-176).
-    fn wait<R: Wait + Clock>(&mut self, rt: &R) {
-        let mut limit = self.walk.next.saturating_sub(self.now).min(NAP);
-        if self.may_take {
-            limit = limit.min(self.links.takes_from(self.since).saturating_sub(self.now));
-        }
-        if self.links.ready_count() > 0 {
-            limit = 0;
-        }
-        self.readiness.wait(limit);
-        self.now = self.readiness.moment(rt).unwrap_or(self.now);
-        self.list_ready();
-        if self.stop.is_set() && self.stopping.is_none() {
-            self.stopping = Some(self.now.saturating_add(STOP_LIMIT));
-            self.may_take = true;
-        }
-        if self.may_take && self.now >= self.links.takes_from(self.since) {
-            self.to_take = (self.links.len() / 8).saturating_add(1);
-        }
-        self.to_serve = self.links.ready_count();
-        self.walk.begin_if_due(self.now);
-        if self.stopping.is_some() {
-            self.walk.comes_by(self.now.saturating_add(NAP));
-        }
-    }
-
-    /// Those that were found ready are to be served.
-    fn list_ready(&mut self) {
-        for _ in 0..EVENTS {
-            match self.readiness.next() {
-                Some(Ready::Listener) => {
-                    if !self.may_take {
-                        self.since = self.now;
-                    }
-                    self.may_take = true;
-                }
-                Some(Ready::Place(place)) => self.links.list(place),
-                None => return,
-            }
-        }
-    }
-
     /// The lane took the connection that came, under this key. If it gets no link the lane is told that it leaves.
     fn took(&mut self, key: Option<usize>)
         ensures stay { AllStay self.old.links.slab self.new.links.slab }
@@ -395,12 +365,18 @@ impl<'l, P: HasStopMark> TurnDriver<'l, P> {
     {
         let (place, moment) = (self.told, self.now);
         self.links.traffic().went(text.len());
+        let round = if self.keeper.holds_answers() && !text.is_empty() {
+            self.rounds.hold()
+        } else {
+            0
+        };
         let turn = TurnResult {
             end,
             due,
             is_idle,
             text,
             moment,
+            round,
         };
         match self.links.turned(place, &turn) {
             Some(Ok(Some(step))) => self.goes(place, step),
@@ -416,7 +392,7 @@ impl<'l, P: HasStopMark> TurnDriver<'l, P> {
     }
 }
 
-impl<'l, P: HasStopMark> Driver for TurnDriver<'l, P> {
+impl<'l, P: HasStopMark, K: RoundKeeper> Driver for TurnDriver<'l, P, K> {
     ghost asks = { λ old next moment piece new. ⊤ };
 
     ghost hears = { λ old done text new. Hears old.told old.links.slab done text new.links.slab };
@@ -424,6 +400,10 @@ impl<'l, P: HasStopMark> Driver for TurnDriver<'l, P> {
     fn next<R: Wait + Clock>(&mut self, rt: &R, piece: &mut [u8]) -> (Next, u64) {
         for _ in rt.forever() {
             match self.step(piece) {
+                Follows::Do(Next::End) => {
+                    self.end_round(rt);
+                    return (Next::End, self.now);
+                }
                 Follows::Do(next) => return (next, self.now),
                 Follows::On => {}
                 Follows::Waits => self.wait(rt),

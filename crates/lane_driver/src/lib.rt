@@ -8,7 +8,7 @@
 //!
 //! ```
 //! let share = ConnectionShare { limit: 64, loads, lane: 0 };
-//! let driver = TurnDriver::new(&rt, alloc, &listener, &mark, share)?;
+//! let driver = TurnDriver::new(&rt, alloc, &listener, &mark, &(), share)?;
 //! ```
 #![tactic(auto)]
 
@@ -19,11 +19,14 @@ mod loads;
 mod looks;
 mod outgoing;
 mod readiness;
+mod rounds;
 mod traffic;
+mod waiting;
 mod walk;
 
 pub use driver::TurnDriver;
 pub use link::{LINGER_BYTES, LINGER_LIMIT, WRITE_LIMIT};
 pub use loads::{ConnectionShare, Loads};
 pub use outgoing::{Outgoing, SendResult};
+pub use rounds::RoundKeeper;
 pub use traffic::Traffic;

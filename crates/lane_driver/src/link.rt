@@ -1,9 +1,11 @@
 //! A connection's socket.
 ghost use Rattle.std.specs.Prelude.{◌≡◌, ◌<◌, ◌≤◌, ◌++◌, ℕ, List, [], None, is_none, true, Ok, OnOk, OnErr, IfOk, length};
 ghost use Rattle.lane_driver.specs.Looks.{before_read, deadline, is_sent, looked, since_put};
+ghost use Rattle.lane_driver.specs.Rounds.{sending};
 
 use crate::looks::{before_read, looked};
 use crate::outgoing::{Flushed, Outgoing};
+use crate::rounds::{Rounds, Sending};
 use http_lane::ServeEnd;
 use lane_turns::Leaving;
 use mio::net::TcpStream;
@@ -67,6 +69,8 @@ pub struct TurnResult<'t> {
     pub is_idle: bool,
     pub text: &'t [u8],
     pub moment: u64,
+    /// The round whose commit this waits for, or 0.
+    pub round: u64,
 }
 
 /// What a read that doesn't wait gave.
@@ -98,6 +102,8 @@ pub struct ConnectionSocket {
     pub since: u64,
     /// It stands among those that are to be served.
     pub is_listed: bool,
+    /// The round in which its last answers were put, if they wait for a commit, or 0.
+    pub round: u64,
 }
 
 impl ConnectionSocket {
@@ -112,6 +118,7 @@ impl ConnectionSocket {
             is_idle: true,
             since: 0,
             is_listed: false,
+            round: 0,
         }
     }
 
@@ -154,8 +161,9 @@ impl ConnectionSocket {
         self.outgoing.put(text)
     }
 
-    /// Sends what can be sent. `false`: it failed.
-    pub fn flush(&mut self, moment: u64) -> bool
+    /// Sends what can be sent, which waits for no commit. `false`: it failed.
+    pub fn flush(&mut self, rounds: &Rounds, moment: u64) -> bool
+        requires { sending rounds.now self.old.round ≡ Sending.Now }
         ensures { (sent : List ℕ) × (self.old.outgoing ≡ sent ++ self.new.outgoing) }
     {
         let Flushed { took, failed } = self.outgoing.flush(&mut self.stream);
@@ -183,6 +191,7 @@ impl ConnectionSocket {
     {
         if !turn.text.is_empty() {
             self.answer(turn.text, turn.moment)?;
+            self.round = turn.round;
         }
         let Some(end) = turn.end else {
             self.due = turn.due;
@@ -209,15 +218,20 @@ impl ConnectionSocket {
             return SocketStep::Over;
         }
         self.phase = Phase::Closing;
-        self.close(moment)
+        if self.round > 0 {
+            // It is closed once the commit is over for which its last answer may wait.
+            return SocketStep::GoesOn;
+        }
+        self.close(&Rounds::new(), moment)
     }
 
     /// Sends the rest of the last answer, and then tells the client that nothing more comes.
-    pub fn close(&mut self, moment: u64) -> SocketStep
+    pub fn close(&mut self, rounds: &Rounds, moment: u64) -> SocketStep
+        requires { sending rounds.now self.old.round ≡ Sending.Now }
         ensures sends { (sent : List ℕ) × (self.old.outgoing ≡ sent ++ self.new.outgoing) }
         ensures all { result ≡ SocketStep.GoesOn → self.new.outgoing ≡ [] }
     {
-        if !self.flush(moment) {
+        if !self.flush(rounds, moment) {
             return SocketStep::Over;
         }
         if !self.outgoing.is_empty() {

@@ -1,7 +1,7 @@
 -- Worked rows, computed: the whole text of two metrics, and the lines of each kind of family.
 -- They serve the definitions that `metrics_text` and `put_ledger` promise.
 use Rattle.std.proofs.Common.{◌≡◌, ◌++◌, refl, replicate, [], ◌∷◌}
-use Rattle.std.specs.Prelude.{codes}
+use Rattle.std.specs.Prelude.{codes, Some, None}
 use Rattle.std.specs.Fmt.{digits}
 use Rattle.metrics_text.specs.Text.{metrics_text}
 use Rattle.metrics_text.specs.Ledgers.{ledger_lines}
@@ -105,7 +105,7 @@ all_zero = refl
 
 -- no two numbers are the same, and the greatest is among them
 all_distinct : metrics_text (record { report = 18446744073709551615 ∷ 21 ∷ 302 ∷ 43 ∷ 5004 ∷ 65 ∷ 706 ∷ 87 ∷ 908 ∷ []; open_connections = 19; uptime_seconds = 86400; spans_waiting = 18; received_bytes = 33; sent_bytes = 44; lines = 5; output_bytes = 16; memory_bytes = 27; answered_200 = 108; answered_400 = 29; answered_404 = 30; answered_405 = 111; answered_408 = 12; answered_413 = 73; answered_415 = 14; answered_431 = 35; answered_503 = 36; late_sampled = 39; late_not_sampled = 40; rejected = 171; attempts_taken = 1272; attempts_refused = 1373; attempts_unanswered = 1474; output_stalled_seconds = 1575; oldest_waiting_seconds = 1616; log_warnings = 1676; log_errors = 1777; clock_jumps = 1878; closed_idle = 1979; incomplete = 2080 })
-    (record { name = []; sampled = 137; not_sampled = 238 } ∷ record { name = codes "a\\b\"c\nd"; sampled = 441; not_sampled = 542 } ∷ [])
+    (record { name = []; place = None; sampled = 137; not_sampled = 238 } ∷ record { name = codes "a\\b\"c\nd"; place = None; sampled = 441; not_sampled = 542 } ∷ record { name = []; place = Some 12; sampled = 643; not_sampled = 744 } ∷ [])
     (record { queued = 201; traces = 202; spans = 203 } ∷ record { queued = 211; traces = 212; spans = 213 } ∷ [])
     ≡ codes "# HELP tsc_spans_received_total Spans of requests that were read.\n"
     ++ codes "# TYPE tsc_spans_received_total counter\n"
@@ -197,6 +197,8 @@ all_distinct : metrics_text (record { report = 18446744073709551615 ∷ 21 ∷ 3
     ++ codes "tsc_traces_decided_total{policy=\"\",decision=\"not_sampled\"} 238\n"
     ++ codes "tsc_traces_decided_total{policy=\"a\\\\b\\\"c\\nd\",decision=\"sampled\"} 441\n"
     ++ codes "tsc_traces_decided_total{policy=\"a\\\\b\\\"c\\nd\",decision=\"not_sampled\"} 542\n"
+    ++ codes "tsc_traces_decided_total{policy=\"\",place=\"12\",decision=\"sampled\"} 643\n"
+    ++ codes "tsc_traces_decided_total{policy=\"\",place=\"12\",decision=\"not_sampled\"} 744\n"
     ++ codes "# HELP tsc_shard_queue_items Items that wait in the queues of a shard, as it told last.\n"
     ++ codes "# TYPE tsc_shard_queue_items gauge\n"
     ++ codes "tsc_shard_queue_items{shard=\"0\"} 201\n"

@@ -1,7 +1,7 @@
 -- The text tells each number.
 -- For the clause of `tells_all`.
 use Rattle.std.proofs.Common.{◌≡◌, ◌≢◌, ◌+◌, suc, ◌^◌, ◌<◌, ◌%◌, ◌++◌, ◌∷◌, ℕ, List, [], ap, sym, ◌∙◌, append_assoc, append-nil, arith, drop, length, refl}
-use Rattle.std.specs.Prelude.{codes, decimal, map}
+use Rattle.std.specs.Prelude.{codes, decimal, map, Option}
 use Rattle.std.specs.List.{AllByRecursion, concat}
 use Rattle.std.proofs.Math.Seq.{drop-append_seam}
 use Rattle.std.proofs.lemmas.Fmt.{decimal_by_steps, decimal_injective}
@@ -21,8 +21,8 @@ use Rattle.metrics_text.specs.declared.figure.ShardFigure.{ShardFigure}
 use Rattle.metrics_text.specs.declared.figure.ShardFigure.TheVariants.{Queued, Traces, Spans}
 use Rattle.metrics_text.specs.Shards.{shard_line, shard_lines, shard_row, shard_text, shard_value, shards_text}
 use Rattle.metrics_text.specs.declared.metrics.PolicyNumbers.{PolicyNumbers}
-use Rattle.metrics_text.specs.Deciders.{decided_labels, decided_line, decided_lines, decided_name, policies_text}
-use Rattle.metrics_text.specs.Text.{OfPolicy, OfShard, TellsAll, names}
+use Rattle.metrics_text.specs.Deciders.{decided_labels, decided_line, decided_lines, decided_name, escaped, place_label, policies_text, value_of}
+use Rattle.metrics_text.specs.Text.{OfPolicy, OfShard, TellsAll, names, places}
 use Rattle.metrics_text.specs.Families.{build, connections, dropped, dropped_sample, families, family, family_text, handed, head_lines, labelled, number_of, reason_word, reasons, received, sample, sample_line, uptime, word_of}
 
 -- ---- a number, and a line feed behind it
@@ -220,40 +220,43 @@ all_shards_told xs ys h k same e =
 two_is : (one other rest us : List ℕ) → ((one ++ other) ++ rest) ++ us ≡ one ++ (other ++ (rest ++ us))
 two_is one other rest us = simp append_assoc
 
--- the lines of a policy of this name, and what stands behind them
-abbrev both_lines : (name : List ℕ) → (sampled not_sampled : ℕ) → (rest : List ℕ) → List ℕ
-both_lines name sampled not_sampled rest = decided_line name (codes "sampled") sampled ++ (decided_line name (codes "not_sampled") not_sampled ++ rest)
+-- the lines of a policy for which this value stands, and what is behind them
+abbrev both_lines : (value : List ℕ) → (sampled not_sampled : ℕ) → (rest : List ℕ) → List ℕ
+both_lines value sampled not_sampled rest = decided_line value (codes "sampled") sampled ++ (decided_line value (codes "not_sampled") not_sampled ++ rest)
 
 abbrev lines_of : List PolicyNumbers → List ℕ
 lines_of ps = concat (map decided_lines ps)
 
-same_policy : (p q : PolicyNumbers) → p.name ≡ q.name → p.sampled ≡ q.sampled → p.not_sampled ≡ q.not_sampled → p ≡ q
-same_policy p q name sampled not_sampled =
-    let of : List ℕ → ℕ → ℕ → PolicyNumbers = λ name sampled not_sampled. record { name = name; sampled = sampled; not_sampled = not_sampled } in
-    ap (λ n. of n p.sampled p.not_sampled) name ∙ ap (λ n. of q.name n p.not_sampled) sampled ∙ ap (λ n. of q.name q.sampled n) not_sampled
+same_policy : (p q : PolicyNumbers) → p.name ≡ q.name → p.place ≡ q.place → p.sampled ≡ q.sampled → p.not_sampled ≡ q.not_sampled → p ≡ q
+same_policy p q name place sampled not_sampled =
+    let of : List ℕ → Option ℕ → ℕ → ℕ → PolicyNumbers = λ name place sampled not_sampled. record { name = name; place = place; sampled = sampled; not_sampled = not_sampled } in
+    ap (λ n. of n p.place p.sampled p.not_sampled) name ∙ ap (λ n. of q.name n p.sampled p.not_sampled) place ∙ ap (λ n. of q.name q.place n p.not_sampled) sampled ∙ ap (λ n. of q.name q.place q.sampled n) not_sampled
 
-policies_told : (ps qs : List PolicyNumbers) (us vs : List ℕ) → AllByRecursion OfPolicy ps → AllByRecursion OfPolicy qs → names ps ≡ names qs → lines_of ps ++ us ≡ lines_of qs ++ vs → (ps ≡ qs) × (us ≡ vs)
-policies_told [] [] us vs h k same e = (refl, e)
-policies_told [] (q ∷ qs) us vs h k same e = absurd (cc same)
-policies_told (p ∷ ps) [] us vs h k same e = absurd (cc same)
-policies_told (p ∷ ps) (q ∷ qs) us vs h k same e =
+policies_told : (ps qs : List PolicyNumbers) (us vs : List ℕ) → AllByRecursion OfPolicy ps → AllByRecursion OfPolicy qs → names ps ≡ names qs → places ps ≡ places qs → lines_of ps ++ us ≡ lines_of qs ++ vs → (ps ≡ qs) × (us ≡ vs)
+policies_told [] [] us vs h k same at e = (refl, e)
+policies_told [] (q ∷ qs) us vs h k same at e = absurd (cc same)
+policies_told (p ∷ ps) [] us vs h k same at e = absurd (cc same)
+policies_told (p ∷ ps) (q ∷ qs) us vs h k same at e =
     let name : p.name ≡ q.name = cc same in
+    let place : p.place ≡ q.place = cc at in
+    let value : value_of p ≡ value_of q = ap (λ n. escaped n ++ place_label p.place) name ∙ ap (λ o. escaped q.name ++ place_label o) place in
     let others : names ps ≡ names qs = ap (drop 1) same in
-    let lines : both_lines p.name p.sampled p.not_sampled (lines_of ps ++ us) ≡ both_lines p.name q.sampled q.not_sampled (lines_of qs ++ vs)
-    = sym (two_is (decided_line p.name (codes "sampled") p.sampled) (decided_line p.name (codes "not_sampled") p.not_sampled) (lines_of ps) us)
+    let other_places : places ps ≡ places qs = ap (drop 1) at in
+    let lines : both_lines (value_of p) p.sampled p.not_sampled (lines_of ps ++ us) ≡ both_lines (value_of p) q.sampled q.not_sampled (lines_of qs ++ vs)
+    = sym (two_is (decided_line (value_of p) (codes "sampled") p.sampled) (decided_line (value_of p) (codes "not_sampled") p.not_sampled) (lines_of ps) us)
     ∙ e
-    ∙ two_is (decided_line q.name (codes "sampled") q.sampled) (decided_line q.name (codes "not_sampled") q.not_sampled) (lines_of qs) vs
-    ∙ ap (λ n. both_lines n q.sampled q.not_sampled (lines_of qs ++ vs)) (sym name) in
-    let one = line_told decided_name (decided_labels p.name (codes "sampled")) p.sampled q.sampled (decided_line p.name (codes "not_sampled") p.not_sampled ++ (lines_of ps ++ us)) (decided_line p.name (codes "not_sampled") q.not_sampled ++ (lines_of qs ++ vs)) h.0.0 k.0.0 lines in
-    let two = line_told decided_name (decided_labels p.name (codes "not_sampled")) p.not_sampled q.not_sampled (lines_of ps ++ us) (lines_of qs ++ vs) h.0.1 k.0.1 one.1 in
-    let more = policies_told ps qs us vs h.1 k.1 others two.1 in
-    let first : p ≡ q = same_policy p q name one.0 two.0 in
+    ∙ two_is (decided_line (value_of q) (codes "sampled") q.sampled) (decided_line (value_of q) (codes "not_sampled") q.not_sampled) (lines_of qs) vs
+    ∙ ap (λ n. both_lines n q.sampled q.not_sampled (lines_of qs ++ vs)) (sym value) in
+    let one = line_told decided_name (decided_labels (value_of p) (codes "sampled")) p.sampled q.sampled (decided_line (value_of p) (codes "not_sampled") p.not_sampled ++ (lines_of ps ++ us)) (decided_line (value_of p) (codes "not_sampled") q.not_sampled ++ (lines_of qs ++ vs)) h.0.0 k.0.0 lines in
+    let two = line_told decided_name (decided_labels (value_of p) (codes "not_sampled")) p.not_sampled q.not_sampled (lines_of ps ++ us) (lines_of qs ++ vs) h.0.1 k.0.1 one.1 in
+    let more = policies_told ps qs us vs h.1 k.1 others other_places two.1 in
+    let first : p ≡ q = same_policy p q name place one.0 two.0 in
     let rest : ps ≡ qs = more.0 in (rw (first, rest) refl, more.1)
 
-decided_told : (ps qs : List PolicyNumbers) (us vs : List ℕ) → AllByRecursion OfPolicy ps → AllByRecursion OfPolicy qs → names ps ≡ names qs → policies_text ps ++ us ≡ policies_text qs ++ vs → (ps ≡ qs) × (us ≡ vs)
-decided_told ps qs us vs h k same e =
+decided_told : (ps qs : List PolicyNumbers) (us vs : List ℕ) → AllByRecursion OfPolicy ps → AllByRecursion OfPolicy qs → names ps ≡ names qs → places ps ≡ places qs → policies_text ps ++ us ≡ policies_text qs ++ vs → (ps ≡ qs) × (us ≡ vs)
+decided_told ps qs us vs h k same at e =
     let head : List ℕ = head_lines decided_name (codes "Traces that were decided, by the policy that decided.") (word_of Counter) in
-    policies_told ps qs us vs h k same (strip head _ _ (sym (append_assoc head (lines_of ps) us) ∙ e ∙ append_assoc head (lines_of qs) vs))
+    policies_told ps qs us vs h k same at (strip head _ _ (sym (append_assoc head (lines_of ps) us) ∙ e ∙ append_assoc head (lines_of qs) vs))
 
 -- what stands behind the family of the spans that were given up, and behind that of the connections
 abbrev from_uptime : Metrics → List PolicyNumbers → List ShardNumbers → List ℕ
@@ -271,7 +274,7 @@ whole_is m ps xs =
     six_then (family_text (received m.report)) (family_text (handed m.report)) (family_text (dropped m.report)) (family_text (connections m)) (family_text (uptime m)) (family_text build) (figures_text m ++ (policies_text ps ++ shards_text xs))
 
 pub all_told : TellsAll
-all_told a b ps qs xs ys x y hp hq called hx hy same e =
+all_told a b ps qs xs ys x y hp hq called at hx hy same e =
     let r = single_told (codes "tsc_spans_received_total") (codes "Spans of requests that were read.") [] Counter (number_of a.report Received) (number_of b.report Received)
     (family_text (handed a.report) ++ (family_text (dropped a.report) ++ from_connections a ps xs)) (family_text (handed b.report) ++ (family_text (dropped b.report) ++ from_connections b qs ys))
     (x.counts Received) (y.counts Received) (sym (whole_is a ps xs) ∙ e ∙ whole_is b qs ys) in
@@ -281,6 +284,6 @@ all_told a b ps qs xs ys x y hp hq called hx hy same e =
     let o = single_told (codes "tsc_connections_open") (codes "Connections that are open.") [] Gauge a.open_connections b.open_connections (from_uptime a ps xs) (from_uptime b qs ys) x.open_connections y.open_connections d.1 in
     let u = single_told (codes "tsc_uptime_seconds") (codes "Seconds since the collector began.") [] Gauge a.uptime_seconds b.uptime_seconds (family_text build ++ (figures_text a ++ (policies_text ps ++ shards_text xs))) (family_text build ++ (figures_text b ++ (policies_text qs ++ shards_text ys))) x.uptime_seconds y.uptime_seconds o.1 in
     let f = figures_told a b all_figures (policies_text ps ++ shards_text xs) (policies_text qs ++ shards_text ys) x.figures y.figures (strip (family_text build) (figures_text a ++ (policies_text ps ++ shards_text xs)) (figures_text b ++ (policies_text qs ++ shards_text ys)) u.1) in
-    let p = decided_told ps qs (shards_text xs) (shards_text ys) hp hq called f.1 in
+    let p = decided_told ps qs (shards_text xs) (shards_text ys) hp hq called at f.1 in
     let s = all_shards_told xs ys hx hy same p.1 in
     (record { counts = same_counts a.report b.report r.0 h.0 d.0; open_connections = o.0; uptime_seconds = u.0; figures = same_values a b f.0 }, p.0, s)

@@ -1,5 +1,5 @@
 -- The whole text, and that it tells each number.
-use Rattle.std.specs.Prelude.{◌≡◌, ◌^◌, ◌<◌, ℕ, List, ◌++◌, map, length}
+use Rattle.std.specs.Prelude.{◌≡◌, ◌^◌, ◌<◌, ℕ, List, ◌++◌, map, length, Option}
 use Rattle.std.specs.List.{AllByRecursion, concat}
 use Rattle.drop_ledger.specs.Sums.{Fits}
 use Rattle.drop_ledger.specs.declared.count.Count.{Count}
@@ -32,6 +32,10 @@ OfPolicy policy = (policy.sampled < 2 ^ 64) × (policy.not_sampled < 2 ^ 64)
 abbrev pub names : List PolicyNumbers → List (List ℕ)
 names policies = map (λ (p : PolicyNumbers). p.name) policies
 
+-- the places that stand for names
+abbrev pub places : List PolicyNumbers → List (Option ℕ)
+places policies = map (λ (p : PolicyNumbers). p.place) policies
+
 -- the numbers of a shard
 abbrev pub OfShard : ShardNumbers → Type 0
 OfShard shard = (figure : ShardFigure) → shard_value shard figure < 2 ^ 64
@@ -46,5 +50,5 @@ pub record SameNumbers (a b : Metrics) : Type 0 where
 -- the text tells each number: numbers that differ have texts that differ
 abbrev pub TellsAll : Type 0
 TellsAll = (a b : Metrics) (ps qs : List PolicyNumbers) (xs ys : List ShardNumbers) → AreNumbers a → AreNumbers b
-    → AllByRecursion OfPolicy ps → AllByRecursion OfPolicy qs → names ps ≡ names qs → AllByRecursion OfShard xs → AllByRecursion OfShard ys → length xs ≡ length ys
+    → AllByRecursion OfPolicy ps → AllByRecursion OfPolicy qs → names ps ≡ names qs → places ps ≡ places qs → AllByRecursion OfShard xs → AllByRecursion OfShard ys → length xs ≡ length ys
     → metrics_text a ps xs ≡ metrics_text b qs ys → SameNumbers a b × (ps ≡ qs) × (xs ≡ ys)

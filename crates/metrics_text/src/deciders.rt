@@ -1,6 +1,6 @@
 //! The lines of what the policies decided.
 ghost use Rattle.std.specs.Prelude.{◌≡◌, ◌++◌, IfOk, OnOk, codes, string_bytes};
-ghost use Rattle.metrics_text.specs.Deciders.{decided_lines, escaped, escaped_byte, policies_text};
+ghost use Rattle.metrics_text.specs.Deciders.{decided_lines, escaped, escaped_byte, policies_text, value_of};
 ghost use Rattle.metrics_text.specs.Families.{sample, sample_line};
 
 use crate::kind::FamilyKind;
@@ -37,20 +37,31 @@ fn escaped(alloc: Global, text: &[u8]) -> Result<String, AllocError>
     }
 }
 
-/// Appends the line of a family's sample with the labels of a policy, whose name is escaped, and a decision.
+/// What stands for a policy: its name, or behind the empty one its place under a label of its own (D-434).
+fn value_of(alloc: Global, policy: &PolicyNumbers) -> Result<String, AllocError>
+    ensures { IfOk result (λ value. string_bytes value ≡ value_of policy.now) }
+{
+    let mut value = escaped(alloc, policy.name.as_str().as_bytes())?;
+    if let Some(place) = policy.place {
+        write!(&mut value, "\",place=\"{place}")?;
+    }
+    Ok(value)
+}
+
+/// Appends the line of a family's sample with the labels of a policy, for which this value stands, and a decision.
 fn put_decided(
     text: &mut String,
     family: &str,
-    name: &str,
+    value: &str,
     decision: &str,
     traces: u64,
 ) -> Result<(), AllocError>
     ensures { OnOk result (string_bytes text.new ≡ string_bytes text.old
-        ++ sample_line family.now (sample (codes "{policy=\"" ++ (name.now ++ (codes "\",decision=\"" ++ (decision.now ++ codes "\"}")))) traces)) }
+        ++ sample_line family.now (sample (codes "{policy=\"" ++ (value.now ++ (codes "\",decision=\"" ++ (decision.now ++ codes "\"}")))) traces)) }
 {
     write!(
         text,
-        "{family}{{policy=\"{name}\",decision=\"{decision}\"}} {traces}\n"
+        "{family}{{policy=\"{value}\",decision=\"{decision}\"}} {traces}\n"
     )
 }
 
@@ -58,9 +69,15 @@ fn put_decided(
 fn put_policy(alloc: Global, text: &mut String, policy: &PolicyNumbers) -> Result<(), AllocError>
     ensures { OnOk result (string_bytes text.new ≡ string_bytes text.old ++ decided_lines policy.now) }
 {
-    let name = escaped(alloc, policy.name.as_str().as_bytes())?;
-    put_decided(text, NAME, name.as_str(), "sampled", policy.sampled)?;
-    put_decided(text, NAME, name.as_str(), "not_sampled", policy.not_sampled)
+    let value = value_of(alloc, policy)?;
+    put_decided(text, NAME, value.as_str(), "sampled", policy.sampled)?;
+    put_decided(
+        text,
+        NAME,
+        value.as_str(),
+        "not_sampled",
+        policy.not_sampled,
+    )
 }
 
 /// Appends the family of what the policies decided.

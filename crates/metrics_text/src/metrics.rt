@@ -72,8 +72,10 @@ pub struct Metrics {
 /// What a policy decided.
 #[derive(Drop)]
 pub struct PolicyNumbers {
-    /// Its name; no text stands for the traces that no policy decided, and those of a policy without a name.
+    /// Its name; no text stands for the traces that no policy decided.
     pub name: Text,
+    /// Of a policy whose name is empty, its place in the configuration, from 0 on.
+    pub place: Option<usize>,
     /// How many traces it decided as sampled.
     pub sampled: u64,
     /// How many traces it decided as not sampled.

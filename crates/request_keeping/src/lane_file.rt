@@ -24,16 +24,25 @@ pub struct LaneFile {
     buffer: Vec<u8>,
     /// The greatest moment of its requests, in milliseconds, or 0.
     last: u64,
+    /// Answers wait for a sync.
+    syncs: bool,
+    /// How many requests were written since it was synced last.
+    unsynced: u64,
+    /// So many requests are in a file of which a sync failed; nobody was told so yet.
+    lost: u64,
 }
 
 impl LaneFile {
-    /// None is open.
-    pub fn none(alloc: Global) -> Self {
+    /// None is open. `syncs`: answers wait for a sync.
+    pub fn none(alloc: Global, syncs: bool) -> Self {
         LaneFile {
             alloc,
             file: None,
             buffer: Vec::new(alloc),
             last: 0,
+            syncs,
+            unsynced: 0,
+            lost: 0,
         }
     }
 
@@ -42,8 +51,10 @@ impl LaneFile {
         self.file.is_none()
     }
 
-    /// Goes on in another file, and answers the greatest moment of the requests in the one before.
+    /// Goes on in another file, and answers the greatest moment of the requests in the one before, which is synced first
+    /// where answers wait for that.
     pub fn turn(&mut self, file: File) -> u64 {
+        self.sync();
         self.file = Some(file);
         mem::replace(&mut self.last, 0)
     }
@@ -56,13 +67,36 @@ impl LaneFile {
         moment: u64,
         encoding: Encoding,
         text: &[u8],
-        syncs: bool,
     ) -> io::Result<u64> {
-        let written = self.append(connection, moment, encoding, text, syncs);
+        let written = self.append(connection, moment, encoding, text);
         if written.is_err() {
+            self.sync();
             self.file = None;
         }
         written
+    }
+
+    /// Syncs what was written, and answers how many requests were written since the last sync of which that failed.
+    pub fn commit(&mut self) -> u64 {
+        self.sync();
+        mem::replace(&mut self.lost, 0)
+    }
+
+    /// Syncs what was written since the last sync, where answers wait for that. Behind a sync that failed nothing more goes
+    /// to this file.
+    fn sync(&mut self) {
+        if !self.syncs || self.unsynced == 0 {
+            return;
+        }
+        let synced = match &self.file {
+            Some(file) => file.sync_data().is_ok(),
+            None => false,
+        };
+        if !synced {
+            self.lost = self.lost.saturating_add(self.unsynced);
+            self.file = None;
+        }
+        self.unsynced = 0;
     }
 
     fn append(
@@ -71,16 +105,13 @@ impl LaneFile {
         moment: u64,
         encoding: Encoding,
         text: &[u8],
-        syncs: bool,
     ) -> io::Result<u64> {
         let Some(file) = &mut self.file else {
             return Err(io::Error::from(ErrorKind::NotFound));
         };
         self.buffer.clear();
         write_request(file, &mut self.buffer, moment, connection, encoding, text)?;
-        if syncs {
-            file.sync_data()?;
-        }
+        self.unsynced = self.unsynced.saturating_add(1);
         self.last = self.last.max(moment);
         let bytes = self.buffer.len() as u64;
         if self.buffer.capacity() > ROOM {

@@ -55,7 +55,7 @@ struct StandingCell {
 /// Where requests are kept, and what is told of their spans until a keeper takes it.
 #[derive(Drop)]
 pub struct RequestLedger {
-    /// Each request is synced before it is answered.
+    /// Each request is synced before it is answered: those of one round of a lane by one sync.
     syncs: bool,
     lanes: Vec<Mutex<LaneFile>>,
     news: ArrayQueue<LedgerNews>,
@@ -96,7 +96,7 @@ impl RequestLedger {
     ) -> Result<Self, AllocError> {
         let mut files = Vec::new(alloc);
         for _ in 0..lanes {
-            files.push(Mutex::new(LaneFile::none(alloc)))?;
+            files.push(Mutex::new(LaneFile::none(alloc, syncs)))?;
         }
         let mut standings = Vec::new(alloc);
         for _ in 0..shards {
@@ -136,7 +136,27 @@ impl RequestLedger {
         &self.lanes
     }
 
-    /// Keeps a request that a lane took, and says whether it stands in the lane's file: only then may it be answered.
+    /// Whether answers wait for a sync.
+    pub fn syncs(&self) -> bool {
+        self.syncs
+    }
+
+    /// Syncs what this lane kept. `false`: that failed, and of what it kept since the sync before nothing is sure.
+    pub fn commit<R: Wait>(&self, rt: &R, lane: usize) -> bool {
+        let Some(slot) = self.lanes.get(lane) else {
+            return true;
+        };
+        let lost = slot.lock(rt).commit();
+        if lost == 0 {
+            return true;
+        }
+        self.unwritten.fetch_add(lost, Ordering::Relaxed);
+        self.fails.store(true, Ordering::Relaxed);
+        false
+    }
+
+    /// Keeps a request that a lane took, and says whether it stands in the lane's file: only then may it be answered, and
+    /// where answers wait for a sync only behind the next [`commit`](Self::commit).
     pub fn keep<R: Wait>(
         &self,
         rt: &R,
@@ -149,7 +169,7 @@ impl RequestLedger {
             return false;
         };
         let mut file = slot.lock(rt);
-        match file.write(connection, moment, encoding, text, self.syncs) {
+        match file.write(connection, moment, encoding, text) {
             Ok(bytes) => {
                 self.bytes.fetch_add(bytes, Ordering::Relaxed);
                 true

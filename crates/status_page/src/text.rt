@@ -384,6 +384,9 @@ pub(crate) const TEXT: &str = "<!doctype html>\n\
     const GROUPS = { tsc_spans_dropped_total: \"dropped\", tsc_requests_total: \"answers\", tsc_export_attempts_total: \"attempts\" };\n\
     const OF_SHARDS = { tsc_shard_queue_items: \"queue\", tsc_shard_traces_waiting: \"traces\", tsc_shard_spans_waiting: \"spans\" };\n\
     \n\
+    // What stands for a policy: its name, or where that is empty its place in the configuration; for no policy neither.\n\
+    const deciderKey = (name, place) => JSON.stringify([name, name || place === undefined ? null : Number(place)]);\n\
+    \n\
     function readMetrics(text) {\n\
     \tconst told = { received: 0, handed: 0, waiting: 0, dropped: Object.fromEntries(REASONS.map(it => [it, 0])), answers: {}, attempts: {}, decided: new Map(), shards: [] };\n\
     \tfor (const [, name, inner, digits] of text.matchAll(/^(\\w+)(?:\\{(.*)\\})? (\\S+)$/gm)) {\n\
@@ -396,8 +399,9 @@ pub(crate) const TEXT: &str = "<!doctype html>\n\
     \t\telse if (OF_SHARDS[name]) (told.shards[labels.shard] ??= {})[OF_SHARDS[name]] = value;\n\
     \t\telse if (name === \"tsc_build_info\") told.version = labels.version;\n\
     \t\telse if (name === \"tsc_traces_decided_total\") {\n\
-    \t\t\tif (!told.decided.has(labels.policy)) told.decided.set(labels.policy, { sampled: 0, not_sampled: 0 });\n\
-    \t\t\ttold.decided.get(labels.policy)[labels.decision] = value;\n\
+    \t\t\tconst key = deciderKey(labels.policy, labels.place);\n\
+    \t\t\tif (!told.decided.has(key)) told.decided.set(key, { sampled: 0, not_sampled: 0 });\n\
+    \t\t\ttold.decided.get(key)[labels.decision] = value;\n\
     \t\t}\n\
     \t}\n\
     \treturn told;\n\
@@ -862,20 +866,22 @@ pub(crate) const TEXT: &str = "<!doctype html>\n\
     function showPolicies(told) {\n\
     \tconst windowed = $(\"over\").querySelector(\"[value=window]\").checked, first = windowed ? since(WINDOW) : null;\n\
     \tconst none = { sampled: 0, not_sampled: 0 };\n\
-    \tconst of = (it, name) => it?.told.decided.get(name) || none, now = latest();\n\
-    \tconst tally = name => ({ kept: of(now, name).sampled - of(first, name).sampled, turned: of(now, name).not_sampled - of(first, name).not_sampled });\n\
-    \tconst names = [...told.decided.keys()], all = names.map(tally).reduce((sum, it) => ({ kept: sum.kept + it.kept, turned: sum.turned + it.turned }), { kept: 0, turned: 0 });\n\
+    \tconst of = (it, key) => it?.told.decided.get(key) || none, now = latest();\n\
+    \tconst tally = key => ({ kept: of(now, key).sampled - of(first, key).sampled, turned: of(now, key).not_sampled - of(first, key).not_sampled });\n\
+    \tconst keys = [...told.decided.keys()], all = keys.map(tally).reduce((sum, it) => ({ kept: sum.kept + it.kept, turned: sum.turned + it.turned }), { kept: 0, turned: 0 });\n\
     \tconst total = all.kept + all.turned, share = n => total ? n / total : 0;\n\
-    \tconst row = (name, title, says) => {\n\
-    \t\tconst { kept, turned } = tally(name);\n\
+    \tconst row = (key, title, says) => {\n\
+    \t\tconst { kept, turned } = tally(key);\n\
     \t\treturn { cells: [\n\
     \t\t\t{ text: title, strong: 1, says }, count(kept), { text: count(turned), cls: \"n narrow\" },\n\
     \t\t\t{ text: total ? percent(share(kept + turned)) : \"–\", bar: [[share(kept)], [share(turned), \"against\"]], cls: \"\" },\n\
-    \t\t\t{ text: rate(perSecond(it => of({ told: it }, name).sampled + of({ told: it }, name).not_sampled, 60000)), cls: \"n narrow\" },\n\
+    \t\t\t{ text: rate(perSecond(it => of({ told: it }, key).sampled + of({ told: it }, key).not_sampled, 60000)), cls: \"n narrow\" },\n\
     \t\t] };\n\
     \t};\n\
-    \tconst rows = page.settings.policies.flatMap(it => [row(it.name, it.name, policyWords(it)), ...partRows(it, 1)]), first_match = page.settings.sample_on_first_match;\n\
-    \trows.push(row(\"\", first_match ? \"All of them\" : \"None of them\", first_match ? \"with sample_on_first_match it isn't told which one decided\" : \"no policy spoke for the trace, or it was too big\"));\n\
+    \tconst first_match = page.settings.sample_on_first_match, ofPolicy = (it, place) => row(deciderKey(it.name, first_match ? undefined : place), it.name, policyWords(it));\n\
+    \tconst rows = page.settings.policies.flatMap((it, place) => [ofPolicy(it, place), ...partRows(it, 1)]);\n\
+    \tif (first_match) rows.push(row(deciderKey(\"\", 0), \"All of them\", \"with sample_on_first_match it isn't told which one decided\"));\n\
+    \trows.push(row(deciderKey(\"\"), \"None of them\", \"no policy spoke for the trace, or it was too big\"));\n\
     \ttable($(\"policies\"), \"Traces by the policy that decided\", [\"Policy, in the order of the configuration\", \"traces kept\", \"turned down\", \"share of all decided\", \"now, a second\"], rows);\n\
     \tsay(\"kept-share\", total ? `keeps ${percent(all.kept / total)}: ${count(all.kept)} of ${count(total)} decided traces` : \"no trace was decided yet\");\n\
     \tconst watched = latest().at - since(WINDOW).at;\n\
@@ -1137,4 +1143,4 @@ pub(crate) const TEXT: &str = "<!doctype html>\n\
 pub(crate) const FIELDS: &str = "Cache-Control: no-store\r\n\
     X-Content-Type-Options: nosniff\r\n\
     Referrer-Policy: no-referrer\r\n\
-    Content-Security-Policy: default-src 'none'; script-src 'sha256-VjpMtbJJNCNXINUSqZs+cWLkdPVpteyO0JHDKMhLET4='; style-src 'sha256-jdDMd9EQgArls3EpZzZK/yxpYatm1eDHUsj6i1fjPc4='; connect-src 'self'; img-src data:; base-uri 'none'; form-action 'none'; frame-ancestors 'none'\r\n";
+    Content-Security-Policy: default-src 'none'; script-src 'sha256-xysp8geoF2F1gzBZkXqWG3J4ESaJujnI+9r2vS5M5oQ='; style-src 'sha256-jdDMd9EQgArls3EpZzZK/yxpYatm1eDHUsj6i1fjPc4='; connect-src 'self'; img-src data:; base-uri 'none'; form-action 'none'; frame-ancestors 'none'\r\n";
