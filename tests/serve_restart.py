@@ -471,7 +471,8 @@ def machine_crashes(start):
     may leave. What was answered 200 before is received again, and nothing wrong."""
     with tempfile.TemporaryDirectory() as folder:
         ledger = Crashing(start, folder)
-        want(f"whether {len(ledger.syncs)} syncs are as many as requests, at least", len(ledger.syncs) >= sum(len(it.answered) for it in ledger.lives.senders) > 0, True)
+        # Requests of a round share one, so they are fewer than requests.
+        want(f"whether {len(ledger.syncs)} syncs are some", len(ledger.syncs) >= 20 and sum(len(it.answered) for it in ledger.lives.senders) > 0, True)
 
         def attempt(count):
             luck, sizes, wanted = random.Random(count), ledger.synced(count), ledger.answered_before(count)
@@ -556,8 +557,12 @@ def shared_syncs(start):
     with tempfile.TemporaryDirectory() as folder:
         path = os.path.join(folder, "syncs")
         settings = ALL + f'lanes = 1\n[ledger]\npath = "{folder}/ledger"\nsync = "request"\n'
-        collector = start(settings, surroundings={"LD_PRELOAD": library_of("counted_syncs", folder), "SYNCS": path, "SYNC_MS": "100"})
+        collector = start(settings, surroundings={"LD_PRELOAD": library_of("counted_syncs", folder), "SYNCS": path, "SYNC_MS": "150"})
         clients = [collector.client() for _ in range(32)]
+        for client in clients:
+            # Their connections are taken, one or a few in a round.
+            client.send(post(body_of([ERROR_SPAN])))
+        want("the first answers", [client.answer()[0] for client in clients], [200] * 32)
         for fails in (False, True):
             if fails:
                 with open(path + ".fails", "w", encoding="utf-8"):
@@ -569,7 +574,8 @@ def shared_syncs(start):
                 want("answers 200 where syncs fail", [status for status in map(status_or_end, clients) if status == 200], [])
             else:
                 want("the answers", [client.answer()[0] for client in clients], [200] * 32)
-                want("whether they shared syncs", 0 < bytes_at(path) - before <= 16, True)
+                syncs = bytes_at(path) - before
+                want(f"whether {syncs} syncs are some that were shared", 0 < syncs <= 16, True)
         os.remove(path + ".fails")
         until("requests are answered again", lambda: is_taken(collector))
         collector.close()

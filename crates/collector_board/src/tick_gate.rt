@@ -7,8 +7,11 @@ use std::time::{Clock, Duration};
 /// How long is slept between two looks, in microseconds.
 const NAP: u64 = 50;
 
-/// How many looks are taken before a tick goes on though a lane or a shard is behind: a tenth of a second (D-527).
+/// How many looks are taken before a tick goes on though shards take nothing: a tenth of a second (D-527).
 const LOOKS: u64 = 2_000;
+
+/// How many looks are taken before a tick goes on though a lane or a shard is still behind: a second.
+const MOST_LOOKS: u64 = 20_000;
 
 /// Lets lanes take requests, or the ticker tell the shards a tick, so that each request lies before or behind each tick.
 #[derive(Drop)]
@@ -53,7 +56,7 @@ impl TickGate {
     /// From now on no lane begins a round, and none is within one.
     pub fn shut<R: Wait + Clock>(&self, rt: &R) {
         self.is_shut.store(true, Ordering::SeqCst);
-        for _ in 0..LOOKS {
+        for _ in 0..MOST_LOOKS {
             if self.inside.load(Ordering::SeqCst) == 0 {
                 return;
             }
@@ -80,10 +83,19 @@ impl TickGate {
     pub fn wait_for<R: Wait + Clock>(&self, rt: &R, shards: u64, spans: u64) {
         let ticks = self.ticks.load(Ordering::SeqCst);
         let items = spans.saturating_add(ticks.saturating_mul(shards));
-        for _ in 0..LOOKS {
-            if self.taken.load(Ordering::SeqCst) >= items {
+        let (mut seen, mut left) = (0, LOOKS);
+        for _ in 0..MOST_LOOKS {
+            let taken = self.taken.load(Ordering::SeqCst);
+            // Shards that take nothing wait for the output, which isn't to hold up lanes.
+            if taken >= items || left == 0 {
                 return;
             }
+            left = if taken == seen {
+                left - 1
+            } else {
+                LOOKS
+            };
+            seen = taken;
             thread::sleep(rt, Duration::from_micros(NAP));
         }
     }
