@@ -7,6 +7,7 @@ use crate::link::{ConnectionSocket, Got, Looked, Phase, SocketStep, TurnResult};
 use crate::links::{Links, leaves_by};
 use crate::loads::ConnectionShare;
 use crate::readiness::{Accepted, EVENTS, NAP, Readiness, Ready};
+use crate::traffic::TrafficEvent;
 use crate::walk::Walk;
 use http_lane::{HasStopMark, IDLE_LIMIT, ServeEnd};
 use lane_turns::{Done, Driver, Leaving, Next};
@@ -214,7 +215,7 @@ impl<'l, P: HasStopMark> TurnDriver<'l, P> {
         ensures { (next : Next) → result ≡ Follows.Do next → FitsNext next (length piece.old) }
     {
         self.since = self.now.saturating_add(NAP);
-        self.links.traffic().lacks_file();
+        self.links.traffic().sees(TrafficEvent::LacksFile);
         self.make_room(piece, leaves_by(self.now))
     }
 
@@ -243,7 +244,7 @@ impl<'l, P: HasStopMark> TurnDriver<'l, P> {
                 Got::Nothing => {}
             }
         }
-        self.links.traffic().closes_idle();
+        self.links.traffic().sees(TrafficEvent::ClosesIdle);
         Follows::Do(Next::Dismiss { key })
     }
 

@@ -26,4 +26,4 @@ pub use driver::TurnDriver;
 pub use link::{LINGER_BYTES, LINGER_LIMIT, WRITE_LIMIT};
 pub use loads::{ConnectionShare, Loads};
 pub use outgoing::{Outgoing, SendResult};
-pub use traffic::Traffic;
+pub use traffic::{Traffic, TrafficEvent};
