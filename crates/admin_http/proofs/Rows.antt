@@ -1,6 +1,6 @@
 -- Worked rows, computed: where each request goes, and its answer, whole.
 -- They serve the definitions that `heard`, `answer` and `serve` promise.
-use Rattle.std.proofs.Common.{◌≡◌, true, false, refl, List, ℕ, [], ◌∷◌, ◌++◌, Some, None}
+use Rattle.std.proofs.Common.{◌≡◌, true, false, refl, List, ℕ, [], ◌∷◌, ◌++◌, Some, None, Ok, Err}
 use Rattle.std.specs.Prelude.{codes, map}
 use Rattle.std.specs.Fmt.{digits}
 use Rattle.hex.proofs.OnLiterals.{hex_on_literals}
@@ -14,10 +14,11 @@ use Rattle.admin_http.specs.declared.asked.Method.TheVariants.{Get, Post}
 use Rattle.admin_http.specs.declared.asked.Access.TheVariants.{Full, Numbers}
 use Rattle.admin_http.specs.declared.asked.Route.{Route}
 use Rattle.admin_http.specs.declared.asked.Route.TheVariants.{Close, Reopen, Metrics, Health, Config, Status, Decisions, Trace, Page, Forbidden, NotFound, WrongMethod, Bad, TooLarge}
+use Rattle.admin_http.specs.declared.ends.Silence.TheVariants.{Quiet, Stopped}
 use Rattle.admin_http.specs.declared.ends.TheConstants.{PIECE_LIMIT, QUIET_LIMIT, READ_LIMIT}
 use Rattle.admin_http.specs.declared.asked.AdminRequest.{AdminRequest}
 use Rattle.admin_http.specs.Asked.{asked, asked_by, numbers_routed, refused_as, routed, nothing}
-use Rattle.admin_http.specs.Serving.{closes, is_counted, is_harmless, reopens}
+use Rattle.admin_http.specs.Serving.{closes, is_counted, is_harmless, quiet_after, reopens}
 use Rattle.admin_http.specs.Texts.{AdminState, answer_of, state}
 
 -- the eight targets that are texts, each by its method
@@ -221,3 +222,7 @@ of_head = refl
 -- how many bytes a read gives at most, how many reads are made, and how many may give nothing
 limits : PIECE_LIMIT ∷ READ_LIMIT ∷ QUIET_LIMIT ∷ [] ≡ 4096 ∷ 1024 ∷ 50 ∷ []
 limits = refl
+
+-- reads that gave nothing: the first, the last but one, and the last of them; and one while the collector closes
+reads_of_nothing : quiet_after 0 false ∷ quiet_after 48 false ∷ quiet_after 49 false ∷ quiet_after 7 true ∷ [] ≡ Ok 1 ∷ Ok 49 ∷ Err Quiet ∷ Err Stopped ∷ []
+reads_of_nothing = refl

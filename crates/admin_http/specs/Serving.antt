@@ -1,5 +1,5 @@
 -- What one connection does: it reads until a head is whole, answers it once, and ends.
-use Rattle.std.specs.Prelude.{◌≡◌, ℕ, ◌<◌, Bool, true, false, List, [], ◌++◌, length, take, Option, Some, Result, Ok, Err}
+use Rattle.std.specs.Prelude.{◌≡◌, ℕ, ◌+◌, ◌-◌, ◌^◌, ◌<◌, min, nat_lt, Bool, true, false, if◌then◌else◌, List, [], ◌++◌, length, take, Option, Some, Result, Ok, Err}
 use Rattle.std.specs.Io.KnownBytes.{Appends, Consumes, IsAtEnd}
 use Rattle.http_text.specs.Lines.{Waits, cut, head_len}
 use Rattle.admin_http.specs.declared.asked.AdminRequest.{AdminRequest}
@@ -11,7 +11,8 @@ use Rattle.admin_http.specs.declared.ends.AdminEnd.TheVariants.{Heard, Unheard}
 use Rattle.admin_http.specs.declared.ends.Portion.{Portion}
 use Rattle.admin_http.specs.declared.ends.Portion.TheVariants.{Whole, Part, Nothing}
 use Rattle.admin_http.specs.declared.ends.Silence.{Silence}
-use Rattle.admin_http.specs.declared.ends.Silence.TheVariants.{Cut, NoMemory}
+use Rattle.admin_http.specs.declared.ends.Silence.TheVariants.{Cut, NoMemory, Quiet, Stopped}
+use Rattle.admin_http.specs.declared.ends.TheConstants.{QUIET_LIMIT}
 use Rattle.admin_http.specs.declared.ends.PieceRead.{PieceRead}
 use Rattle.admin_http.specs.declared.ends.PieceRead.TheVariants.{More, End, NoRoom}
 use Rattle.admin_http.specs.Asked.{IsHeard}
@@ -62,6 +63,15 @@ Takes left left_after read read_after More = (more : List ℕ) × Consumes left 
 Takes left left_after read read_after NoRoom = (more : List ℕ) × Consumes left left_after more
 Takes left left_after read read_after End = Consumes left left_after [] × (read_after ≡ read) × IsAtEnd left_after
 Takes left left_after read read_after _ = Consumes left left_after [] × (read_after ≡ read)
+
+-- how many reads gave nothing for now, with one more behind these, or why that ends the connection: the collector is
+-- closing, or that were too many
+abbrev pub one_more : (quiet : ℕ) → ℕ
+one_more quiet = min (quiet + 1) (2 ^ 64 - 1)
+
+abbrev pub quiet_after : (quiet : ℕ) → (is_stopping : Bool) → Result ℕ Silence
+quiet_after quiet true = Err Stopped
+quiet_after quiet false = if nat_lt (one_more quiet) QUIET_LIMIT then Ok (one_more quiet) else Err Quiet
 
 -- no request was heard: the head isn't whole
 abbrev pub IsSilent : (left : Option (List ℕ)) → (read : List ℕ) → Silence → Type 0

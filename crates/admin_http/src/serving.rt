@@ -1,6 +1,6 @@
 //! One connection.
 ghost use Rattle.std.specs.Prelude.{◌≡◌, ◌<◌, ◌≤◌, ℕ, List, Bool, true, false, IfOk, length, string_bytes};
-ghost use Rattle.admin_http.specs.Serving.{Answers, Hears, IsMade, Puts, Responds, Served, Takes, asked_to_close, asked_to_reopen, closes, is_counted, reopens, was_harmless};
+ghost use Rattle.admin_http.specs.Serving.{Answers, Hears, IsMade, Puts, Responds, Served, Takes, asked_to_close, asked_to_reopen, closes, is_counted, quiet_after, reopens, was_harmless};
 ghost use Rattle.admin_http.specs.declared.asked.Access.TheVariants.{Numbers};
 
 use crate::admin::Admin;
@@ -121,6 +121,21 @@ fn take_piece<R: Read>(reader: &mut R, read: &mut Vec<u8>) -> PieceRead
     }
 }
 
+/// How many reads gave nothing for now, with one more behind these, or why that ends the connection.
+fn quiet_after(quiet: u64, is_stopping: bool) -> Result<u64, Silence>
+    ensures { result ≡ quiet_after quiet is_stopping }
+{
+    if is_stopping {
+        return Err(Silence::Stopped);
+    }
+    let quiet = quiet.saturating_add(1);
+    if quiet < QUIET_LIMIT {
+        Ok(quiet)
+    } else {
+        Err(Silence::Quiet)
+    }
+}
+
 /// Reads until a head is whole.
 fn hear<R: Read, A: Admin>(
     alloc: Global,
@@ -139,15 +154,7 @@ fn hear<R: Read, A: Admin>(
                     return Ok(asked);
                 }
             }
-            PieceRead::Nothing => {
-                if admin.is_stopping() {
-                    return Err(Silence::Stopped);
-                }
-                quiet += 1;
-                if quiet >= QUIET_LIMIT {
-                    return Err(Silence::Quiet);
-                }
-            }
+            PieceRead::Nothing => quiet = quiet_after(quiet, admin.is_stopping())?,
             PieceRead::Interrupted => {}
             PieceRead::Failed => return Err(Silence::ReadFault),
             PieceRead::End => return Err(Silence::Cut),

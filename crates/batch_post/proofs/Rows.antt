@@ -1,10 +1,11 @@
 -- What is done after an answer, computed, and a log by hand.
-use Rattle.std.proofs.Common.{◌≡◌, ℕ, [], ◌∷◌, map, Option, Some, None, refl}
+use Rattle.std.specs.Prelude.{filter}
+use Rattle.std.proofs.Common.{◌≡◌, ℕ, zero, suc, ◌+◌, List, [], ◌∷◌, map, Option, Some, None, refl}
 use Rattle.batch_post.specs.declared.outcome.AttemptOutcome.TheVariants.{Answered, NoAnswer}
 use Rattle.batch_post.specs.declared.outcome.BatchFate.TheVariants.{Delivered, GivenUp}
 use Rattle.batch_post.specs.declared.rule.Retry.{Retry}
 use Rattle.batch_post.specs.declared.rule.RetryVerdict.TheVariants.{Taken, Waits, Ends}
-use Rattle.batch_post.specs.Rules.{next_wait, wait_behind, with_jitter, verdict_of}
+use Rattle.batch_post.specs.Rules.{is_taken, may_try_again, next_wait, wait_behind, with_jitter, verdict_of}
 use Rattle.batch_post.specs.Logs.{tried, told, drawn, remained, waited, settled}
 use Rattle.batch_post.specs.Deliveries.{Attempt, Retried, Course, IsCourse, verdict_on, course_entries, delivered_bytes}
 
@@ -44,6 +45,17 @@ server_error = refl
 
 accepted_is_no_200 : verdict_of usual (Answered 202 None) 500 0 0 None ≡ Ends
 accepted_is_no_200 = refl
+
+-- of all statuses that an answer may have (RFC 9110, section 15), a batch is tried again after these, and taken by this
+abbrev counted_on : (from count : ℕ) → List ℕ
+counted_on from zero = []
+counted_on from (suc count) = from ∷ counted_on (from + 1) count
+
+tried_again : filter (λ status. may_try_again (Answered status None)) (counted_on 100 500) ≡ 429 ∷ 502 ∷ 503 ∷ 504 ∷ []
+tried_again = refl
+
+took_it : filter (λ status. is_taken (Answered status None)) (counted_on 100 500) ≡ 200 ∷ []
+took_it = refl
 
 -- at its last moment, and behind it
 still_in_time : verdict_of usual NoAnswer 500 0 299500 None ≡ Waits 500

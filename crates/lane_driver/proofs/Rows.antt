@@ -8,7 +8,10 @@ use Rattle.lane_driver.specs.declared.link.Phase.TheVariants.{Serving, Closing, 
 use Rattle.lane_driver.specs.declared.link.Looked.TheVariants.{Waits, Over, Leaves, HasTurn}
 use Rattle.lane_driver.specs.declared.rounds.Sending.TheVariants.{Now, Later, Never}
 use Rattle.lane_driver.specs.Rounds.{after_commit, sending, starts}
-use Rattle.lane_driver.specs.Looks.{looked, since_put}
+use Rattle.lane_driver.specs.Looks.{looked, since_flushed, since_put}
+use Rattle.lane_driver.specs.Traffic.{counted_as}
+use Rattle.lane_driver.specs.declared.traffic.TrafficEvent.TheVariants.{Came, Went, ClosesIdle, LacksFile}
+use Rattle.lane_driver.specs.declared.traffic.TrafficCount.TheVariants.{Received, Sent, ClosedIdle, LackedFile}
 use Rattle.lane_driver.specs.Taking.{leaves_by, taken_from}
 
 -- with the fewest, an eighth more, three more than that, and many more
@@ -21,6 +24,13 @@ leaving = refl
 -- more is put behind a rest, and where nothing was left
 standing_still : since_put (codes "ab") 3 7 ∷ since_put [] 3 7 ∷ [] ≡ 3 ∷ 7 ∷ []
 standing_still = refl
+
+-- of three bytes that were left one more, all and none were taken
+flushed : since_flushed (codes "abc") (codes "bc") 3 7 ∷ since_flushed (codes "abc") [] 3 7 ∷ since_flushed (codes "abc") (codes "abc") 3 7 ∷ [] ≡ 7 ∷ 7 ∷ 3 ∷ []
+flushed = refl
+
+counted : counted_as (Came 5) ∷ counted_as (Went 6) ∷ counted_as ClosesIdle ∷ counted_as LacksFile ∷ [] ≡ (Received, 5) ∷ (Sent, 6) ∷ (ClosedIdle, 1) ∷ (LackedFile, 1) ∷ []
+counted = refl
 
 -- between requests, with all sent: before its time is over, then, and once the mark to stop is set
 idle : looked Serving true true 10 9 None ∷ looked Serving true true 10 10 None ∷ looked Serving true true 10 9 (Some 50) ∷ [] ≡ Waits 10 ∷ HasTurn ∷ HasTurn ∷ []

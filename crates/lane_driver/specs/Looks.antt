@@ -1,10 +1,12 @@
 -- When a connection is looked at though nothing is ready there, and what a look at it comes to.
-use Rattle.std.specs.Prelude.{ℕ, ◌+◌, ◌-◌, ◌^◌, Bool, true, false, ◌||◌, List, [], ◌∷◌, Option, Some, None, min, if◌then◌else◌, nat_le, ◌==◌}
+use Rattle.std.specs.Prelude.{ℕ, ◌+◌, ◌-◌, ◌^◌, Bool, true, false, ◌||◌, List, [], ◌∷◌, Option, Some, None, min, if◌then◌else◌, length, nat_le, nat_lt, ◌==◌}
 use Rattle.lane_turns.specs.declared.table.Leaving.TheVariants.{ReadFailed, WriteFailed}
 use Rattle.lane_driver.specs.declared.link.Phase.{Phase}
 use Rattle.lane_driver.specs.declared.link.Phase.TheVariants.{Serving, Closing, Lingering}
 use Rattle.lane_driver.specs.declared.link.Looked.{Looked}
 use Rattle.lane_driver.specs.declared.link.Looked.TheVariants.{Waits, Over, Leaves, HasTurn}
+use Rattle.lane_driver.specs.declared.outgoing.SendResult.{SendResult}
+use Rattle.lane_driver.specs.declared.outgoing.SendResult.TheVariants as sent
 use Rattle.lane_driver.specs.declared.link.SocketStep.{SocketStep}
 use Rattle.lane_driver.specs.declared.link.SocketStep.TheVariants as step
 use Rattle.lane_driver.specs.declared.link.TheConstants.{LINGER_LIMIT, WRITE_LIMIT}
@@ -21,6 +23,17 @@ later moment more = min (moment + more) (2 ^ 64 - 1)
 -- since when, once more is to be sent: that alone counts where nothing was left
 abbrev pub since_put : (left : List ℕ) → (since moment : ℕ) → ℕ
 since_put left since moment = if is_sent left then moment else since
+
+-- a write took some bytes
+abbrev pub took_some : SendResult → Bool
+took_some sent.Some = true
+took_some sent.Blocked = false
+took_some sent.Failed = false
+
+-- Since when what is to be sent stands still, behind writes that left this much of that: since a write took something
+-- last.
+abbrev pub since_flushed : (left left_after : List ℕ) → (since moment : ℕ) → ℕ
+since_flushed left left_after since moment = if nat_lt (length left_after) (length left) then moment else since
 
 -- when it is to be looked at: where all was sent, once its time is over; else once writes have stood still for too long;
 -- behind its last answer once what still comes was thrown away for long enough

@@ -8,6 +8,7 @@ use crate::links::{Links, leaves_by};
 use crate::loads::ConnectionShare;
 use crate::readiness::{Accepted, NAP, Readiness};
 use crate::rounds::{RoundKeeper, Rounds, Sending};
+use crate::traffic::TrafficEvent;
 use crate::walk::Walk;
 use http_lane::{HasStopMark, IDLE_LIMIT, ServeEnd};
 use lane_turns::{Done, Driver, Leaving, Next};
@@ -226,7 +227,7 @@ impl<'l, P: HasStopMark, K: RoundKeeper> TurnDriver<'l, P, K> {
         ensures { (next : Next) → result ≡ Follows.Do next → FitsNext next (length piece.old) }
     {
         self.since = self.now.saturating_add(NAP);
-        self.links.traffic().lacks_file();
+        self.links.traffic().sees(TrafficEvent::LacksFile);
         self.make_room(piece, leaves_by(self.now))
     }
 
@@ -255,7 +256,7 @@ impl<'l, P: HasStopMark, K: RoundKeeper> TurnDriver<'l, P, K> {
                 Got::Nothing => {}
             }
         }
-        self.links.traffic().closes_idle();
+        self.links.traffic().sees(TrafficEvent::ClosesIdle);
         Follows::Do(Next::Dismiss { key })
     }
 

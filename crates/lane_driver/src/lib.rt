@@ -29,4 +29,4 @@ pub use link::{LINGER_BYTES, LINGER_LIMIT, WRITE_LIMIT};
 pub use loads::{ConnectionShare, Loads};
 pub use outgoing::{Outgoing, SendResult};
 pub use rounds::RoundKeeper;
-pub use traffic::Traffic;
+pub use traffic::{Traffic, TrafficEvent};

@@ -1,6 +1,6 @@
 //! A connection's socket.
 ghost use Rattle.std.specs.Prelude.{◌≡◌, ◌<◌, ◌≤◌, ◌++◌, ℕ, List, [], None, is_none, true, Ok, OnOk, OnErr, IfOk, length};
-ghost use Rattle.lane_driver.specs.Looks.{before_read, deadline, is_sent, looked, since_put};
+ghost use Rattle.lane_driver.specs.Looks.{before_read, deadline, is_sent, looked, since_flushed, since_put};
 ghost use Rattle.lane_driver.specs.Rounds.{sending};
 
 use crate::looks::{before_read, looked};
@@ -164,7 +164,8 @@ impl ConnectionSocket {
     /// Sends what can be sent, which waits for no commit. `false`: it failed.
     pub fn flush(&mut self, rounds: &Rounds, moment: u64) -> bool
         requires { sending rounds.now self.old.round ≡ Sending.Now }
-        ensures { (sent : List ℕ) × (self.old.outgoing ≡ sent ++ self.new.outgoing) }
+        ensures sends { (sent : List ℕ) × (self.old.outgoing ≡ sent ++ self.new.outgoing) }
+        ensures since { self.new.since ≡ since_flushed self.old.outgoing self.new.outgoing self.old.since moment }
     {
         let Flushed { took, failed } = self.outgoing.flush(&mut self.stream);
         if took {

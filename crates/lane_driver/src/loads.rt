@@ -1,5 +1,7 @@
 //! How many connections each lane has, so that a new one goes to the lane that has the fewest, and what came and went
 //! on them.
+ghost use Rattle.std.specs.Prelude.{◌≡◌, min};
+
 use crate::traffic::Traffic;
 use std::alloc::{AllocError, Global};
 use std::sync::Arc;
@@ -46,10 +48,17 @@ impl Loads {
     pub fn least(&self) -> u64 {
         let mut least = u64::MAX;
         for it in self.counts.iter() {
-            least = least.min(it.load(Ordering::SeqCst));
+            least = fewer(least, it.load(Ordering::SeqCst));
         }
         least
     }
+}
+
+/// The fewest of some lanes, and of one that has so many more.
+fn fewer(least: u64, count: u64) -> u64
+    ensures { result ≡ min least count }
+{
+    least.min(count)
 }
 
 /// A lane's share of the connections.

@@ -1,7 +1,7 @@
 //! What is to be sent on a connection.
-ghost use Rattle.std.specs.Prelude.{◌≡◌, ◌≤◌, ◌++◌, ℕ, List, [], OnOk, OnErr, IsTrue, length, drop};
+ghost use Rattle.std.specs.Prelude.{◌≡◌, ◌≤◌, ◌++◌, ℕ, List, [], OnOk, OnErr, IsTrue, false, length, drop, nat_lt};
 ghost use Rattle.std.specs.Io.KnownBytes.{Appends};
-ghost use Rattle.lane_driver.specs.Looks.{is_sent};
+ghost use Rattle.lane_driver.specs.Looks.{is_sent, took_some};
 
 use std::alloc::{AllocError, Global};
 use std::io::{ErrorKind, Write};
@@ -78,7 +78,9 @@ impl Outgoing {
 
     /// One write: what was taken goes from the front.
     pub fn send<W: Write>(&mut self, writer: &mut W) -> SendResult
-        ensures { (sent : List ℕ) × (self.old ≡ sent ++ self.new) × Appends (W.contents writer.old) (W.contents writer.new) sent }
+        ensures sends { (sent : List ℕ) × (self.old ≡ sent ++ self.new) × Appends (W.contents writer.old) (W.contents writer.new) sent }
+        ensures took { nat_lt (length self.new) (length self.old) ≡ took_some result }
+        ensures kept { took_some result ≡ false → self.new ≡ self.old }
     {
         match writer.write(&self.bytes[self.at..]) {
             Ok(0) => SendResult::Failed,
@@ -95,7 +97,8 @@ impl Outgoing {
 
     /// Writes until nothing is left, nothing is taken for now, or one fails.
     pub fn flush<W: Write>(&mut self, writer: &mut W) -> Flushed
-        ensures { (sent : List ℕ) × (self.old ≡ sent ++ self.new) × Appends (W.contents writer.old) (W.contents writer.new) sent }
+        ensures sends { (sent : List ℕ) × (self.old ≡ sent ++ self.new) × Appends (W.contents writer.old) (W.contents writer.new) sent }
+        ensures took { result.took ≡ nat_lt (length self.new) (length self.old) }
     {
         let mut took = false;
         for _ in 0..WRITES {

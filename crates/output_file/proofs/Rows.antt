@@ -1,10 +1,10 @@
 -- The definitions, computed.
--- For `turn_of` (`turn_of`), `line_end_after` (`is_whole`), the invariant of `OutputFile` (`joined`, `leaves`), `shift_names`
+-- For `turn_of` (`turn_of`), `FilesPlace::open` (`opened_size`), `turn` (`seen_after`), `line_end_after` (`is_whole`), the invariant of `OutputFile` (`joined`, `leaves`), `shift_names`
 -- (`shifted`, `moved`), `name_of` (`name_text`) and `tries_again` (`tries_again`).
 use Rattle.std.proofs.Common.{◌≡◌, true, false, [], ◌∷◌, Some, None, refl, codes}
 use Rattle.std.specs.Fmt.{digits}
 use Rattle.output_file.specs.declared.turning.FileTurn.TheVariants.{Stays, Reopens, Shifts}
-use Rattle.output_file.specs.Turning.{turn_of}
+use Rattle.output_file.specs.Turning.{opened_size, seen_after, turn_of}
 use Rattle.output_file.specs.Segments.{is_whole, line_end_after, leaves, joined}
 use Rattle.output_file.specs.Names.{shifted, moved, name_text}
 use Rattle.output_file.specs.Retrying.{tries_again}
@@ -31,6 +31,14 @@ asked_for_while_long = refl
 
 asked_for_without_a_size : turn_of 7 0 true true ≡ Reopens
 asked_for_without_a_size = refl
+
+-- 4,096 bytes that were there, and a line feed behind a line that was torn
+sizes_that_were_there : opened_size 4096 false ∷ opened_size 4096 true ∷ opened_size 0 false ∷ opened_size 18446744073709551615 true ∷ [] ≡ 4096 ∷ 4097 ∷ 0 ∷ 18446744073709551615 ∷ []
+sizes_that_were_there = refl
+
+-- asked for the fifth time
+asked_until_it_is_opened : seen_after 4 5 true ∷ seen_after 4 5 false ∷ [] ≡ 5 ∷ 4 ∷ []
+asked_until_it_is_opened = refl
 
 -- ---- whole lines: `a`, a line feed, `b`
 

@@ -1,5 +1,5 @@
 -- When an output turns to a new file.
-use Rattle.std.specs.Prelude.{◌≡◌, ◌⊎◌, ℕ, nat_le, nat_lt, Bool, true, ◌&&◌, List, Result, if◌then◌else◌}
+use Rattle.std.specs.Prelude.{◌≡◌, ◌⊎◌, ℕ, ◌+◌, ◌-◌, ◌^◌, min, nat_le, nat_lt, Bool, true, ◌&&◌, List, Result, if◌then◌else◌}
 use Rattle.output_file.specs.declared.turning.FileTurn.{FileTurn}
 use Rattle.output_file.specs.declared.turning.FileTurn.TheVariants.{Stays, Reopens, Shifts}
 use Rattle.output_file.specs.Segments.{OutputState, leaves, WritesOn}
@@ -9,6 +9,15 @@ use Rattle.output_file.specs.Segments.{OutputState, leaves, WritesOn}
 abbrev pub turn_of : (size longest : ℕ) → (at_line_end asked : Bool) → FileTurn
 turn_of size longest at_line_end asked =
     if at_line_end then (if asked then Reopens else (if nat_lt 0 longest && nat_le longest size then Shifts else Stays)) else Stays
+
+-- how many bytes are in a file that was opened, where so many were found, and a line feed was written behind them if the
+-- last line was torn
+abbrev pub opened_size : (found : ℕ) → (is_torn : Bool) → ℕ
+opened_size found is_torn = if is_torn then min (found + 1) (2 ^ 64 - 1) else found
+
+-- how often a file was asked to be opened anew, as far as that is done: where it can't be opened it is still asked for
+abbrev pub seen_after : (seen asked : ℕ) → (is_opened : Bool) → ℕ
+seen_after seen asked is_opened = if is_opened then asked else seen
 
 -- the file was left, and another one is open, at the end of a line
 pub record IsLeft (old new : OutputState) : Type 0 where

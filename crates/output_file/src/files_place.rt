@@ -1,6 +1,7 @@
 //! The files of an output in the file system.
 ghost use Rattle.std.specs.Prelude.{◌≡◌, None, IfOk, string_bytes};
 ghost use Rattle.output_file.specs.Names.{name_text};
+ghost use Rattle.output_file.specs.Turning.{opened_size};
 
 use crate::names::{OutputNames, shift_names};
 use crate::place::{OpenedFile, OutputPlace};
@@ -42,12 +43,12 @@ impl<'r, R: Files> OutputPlace for FilesPlace<'r, R> {
             .append(true)
             .create(true)
             .open(self.rt, self.path.as_str())?;
-        let size = file.metadata()?.len();
-        if size == 0 || !ends_inside_line(&mut file)? {
-            return Ok(OpenedFile { file, size });
+        let found = file.metadata()?.len();
+        let is_torn = found > 0 && ends_inside_line(&mut file)?;
+        if is_torn {
+            file.write_all(b"\n")?;
         }
-        file.write_all(b"\n")?;
-        let size = size.saturating_add(1);
+        let size = opened_size(found, is_torn);
         Ok(OpenedFile { file, size })
     }
 
@@ -57,6 +58,17 @@ impl<'r, R: Files> OutputPlace for FilesPlace<'r, R> {
         let keep = self.keep.max(1);
         shift_names(self, keep)
     }
+}
+
+/// How many bytes are in a file that was opened, where so many were found, and a line feed was written behind them if the
+/// last line was torn.
+fn opened_size(found: u64, is_torn: bool) -> u64
+    ensures { result ≡ opened_size found is_torn }
+{
+    if !is_torn {
+        return found;
+    }
+    found.saturating_add(1)
 }
 
 /// Whether the last byte of a file that has some is no line feed.

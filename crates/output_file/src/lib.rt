@@ -19,6 +19,7 @@
 //! ```
 #![tactic(auto)]
 
+mod failure_told;
 mod files_place;
 mod names;
 mod output;
@@ -30,7 +31,7 @@ mod watch;
 
 pub use files_place::{FilesPlace, name_of};
 pub use names::{OutputNames, shift_names};
-pub use output::OutputFile;
+pub use output::{OutputFile, line_end_after};
 pub use place::{OpenedFile, OutputPlace};
 pub use reopen_mark::ReopenMark;
 pub use retrying::{RetryingWriter, tries_again};

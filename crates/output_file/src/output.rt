@@ -7,7 +7,7 @@ ghost use Rattle.output_file.specs.Turning.{TurnsByRule, IsLeft, Writes};
 
 use crate::place::OutputPlace;
 use crate::reopen_mark::ReopenMark;
-use crate::turning::{FileTurn, turn_of};
+use crate::turning::{FileTurn, seen_after, turn_of};
 use std::io::Write;
 use std::marker::Model;
 use std::{io, mem};
@@ -86,9 +86,8 @@ impl<'m, P: OutputPlace + Drop> OutputFile<'m, P> {
         ) {
             FileTurn::Stays => {}
             FileTurn::Reopens => {
-                if self.open_anew() {
-                    self.seen = asked;
-                }
+                let is_opened = self.open_anew();
+                self.seen = seen_after(self.seen, asked, is_opened);
             }
             FileTurn::Shifts => {
                 if self.place.shift().is_ok() {
@@ -137,7 +136,7 @@ impl<'m, P: OutputPlace + Drop> Write for OutputFile<'m, P> {
 }
 
 /// Whether a file is at the end of a line once it took these bytes more.
-fn line_end_after(before: bool, taken: &[u8]) -> bool
+pub fn line_end_after(before: bool, taken: &[u8]) -> bool
     ensures { result ≡ line_end_after before taken.now }
 {
     match taken.last() {

@@ -4,6 +4,7 @@ ghost use Rattle.std.specs.Io.KnownBytes.{Keeps, WriteAppends};
 ghost use Rattle.std.specs.Io.{WritesAtMost};
 ghost use Rattle.output_file.specs.Retrying.{RetryingState, tries_again, IsNotGivenUpEarly};
 
+use crate::failure_told::FailureTold;
 use crate::watch::OutputWatch;
 use std::io::{ErrorKind, Write};
 use std::marker::Model;
@@ -37,7 +38,7 @@ pub struct RetryingWriter<'r, W: Write, V, R> {
     writer: W,
     retries: bool,
     watch: &'r V,
-    is_failing: bool,
+    failure: FailureTold,
     stopping_since: Option<Instant>,
     stopping: Option<u64>,
 }
@@ -60,7 +61,7 @@ impl<'r, W: Write, V: OutputWatch, R: Wait + Clock> RetryingWriter<'r, W, V, R> 
             writer,
             retries,
             watch,
-            is_failing: false,
+            failure: FailureTold::new(),
             stopping_since: None,
             stopping: None,
         }
@@ -75,7 +76,7 @@ impl<'r, W: Write, V: OutputWatch, R: Wait + Clock> RetryingWriter<'r, W, V, R> 
             writer,
             retries: _,
             watch: _,
-            is_failing: _,
+            failure: _,
             stopping_since: _,
             stopping: _,
         } = self;
@@ -104,8 +105,7 @@ impl<'r, W: Write, V: OutputWatch, R: Wait + Clock> RetryingWriter<'r, W, V, R> 
         if error.kind() == ErrorKind::Interrupted {
             return;
         }
-        if !self.is_failing {
-            self.is_failing = true;
+        if self.failure.fails() {
             self.watch.failing(error);
         }
         thread::sleep(self.rt, Duration::from_millis(PAUSE));
@@ -115,8 +115,7 @@ impl<'r, W: Write, V: OutputWatch, R: Wait + Clock> RetryingWriter<'r, W, V, R> 
     fn took(&mut self)
         ensures { self.new ≡ self.old }
     {
-        if self.is_failing {
-            self.is_failing = false;
+        if self.failure.takes() {
             self.watch.back();
         }
     }

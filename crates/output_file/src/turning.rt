@@ -1,6 +1,6 @@
 //! When an output turns to a new file.
 ghost use Rattle.std.specs.Prelude.{◌≡◌};
-ghost use Rattle.output_file.specs.Turning.{turn_of};
+ghost use Rattle.output_file.specs.Turning.{seen_after, turn_of};
 
 /// Whether an output turns to a new file, and how.
 #[derive(Clone, Copy, Debug, PartialEq, Eq)]
@@ -27,4 +27,11 @@ pub fn turn_of(size: u64, longest: u64, at_line_end: bool, asked: bool) -> FileT
     } else {
         FileTurn::Stays
     }
+}
+
+/// How often a file was asked to be opened anew, as far as that is done: where it can't be opened it is still asked for.
+pub fn seen_after(seen: u64, asked: u64, is_opened: bool) -> u64
+    ensures { result ≡ seen_after seen asked is_opened }
+{
+    if is_opened { asked } else { seen }
 }

@@ -1,8 +1,9 @@
--- For how long answers ask to wait, and how many heads may come, computed.
+-- For how long answers ask to wait, and how much may come, computed.
 use Rattle.std.proofs.Common.{◌≡◌, [], ◌∷◌, Some, None, codes, refl}
 use Rattle.http1.specs.Text.{eq_ignore_case}
 use Rattle.post_http.specs.Waits.{seconds_of, wait_in}
 use Rattle.post_http.specs.declared.reading.TheConstants.{FIELD_LIMIT, INTERIM_LIMIT}
+use Rattle.post_http.specs.declared.posting.TheConstants.{ANSWER_LIMIT}
 
 seven_seconds : seconds_of (codes "7") ≡ Some 7
 seven_seconds = refl
@@ -30,6 +31,6 @@ no_such_field : wait_in ((codes "Retry", codes "3") ∷ []) ≡ None
 unfolding eq_ignore_case
 no_such_field = refl
 
--- how many fields a head may have, and how many heads may stand in front of a body
-limits : FIELD_LIMIT ∷ INTERIM_LIMIT ∷ [] ≡ 64 ∷ 8 ∷ []
+-- how many fields a head may have, how many heads may stand in front of a body, and how many bytes an answer may take
+limits : FIELD_LIMIT ∷ INTERIM_LIMIT ∷ ANSWER_LIMIT ∷ [] ≡ 64 ∷ 8 ∷ 65536 ∷ []
 limits = refl

@@ -3,6 +3,7 @@ use Rattle.std.specs.Prelude.{◌≡◌, ℕ, List, [], ◌∷◌, true, false, 
 use Rattle.protobuf_wire.specs.Wire.{base128, number, little_endian, value_of, field_of, next_field}
 use Rattle.otlp_protobuf.specs.Kinds.{merged_in}
 use Rattle.post_socket.specs.Rejected.{rejected_in}
+use Rattle.post_socket.specs.Connecting.{found_at, limits_of, may_be_used}
 use Rattle.post_socket.specs.Closing.{attempt_limit, closing_since, milliseconds_asked, next_sleep, time_left}
 
 -- all were taken
@@ -50,3 +51,13 @@ sleeps = refl
 
 asked : milliseconds_asked (Some 3) ∷ milliseconds_asked None ∷ [] ≡ Some 3000 ∷ None ∷ []
 asked = refl
+
+-- the end of a connection, three bytes that nobody asked for, nothing, and a fault
+used_again : may_be_used (found_at (Some 0) false) ∷ may_be_used (found_at (Some 3) false) ∷ may_be_used (found_at None true) ∷ may_be_used (found_at None false) ∷ [] ≡ false ∷ false ∷ true ∷ false ∷ []
+used_again = refl
+
+write_limit : (limits_of 5000).write ≡ Some 5000
+write_limit = refl
+
+read_limit : (limits_of 5000).read ≡ Some 5000
+read_limit = refl

@@ -1,5 +1,6 @@
 -- How many spans an answer in protobuf says were rejected (`ExportTraceServiceResponse`, `ExportTracePartialSuccess`).
-use Rattle.std.specs.Prelude.{◌≡◌, ℕ, ◌^◌, List, Result, Ok, Err, nat_lt, ◌==◌, if◌then◌else◌}
+use Rattle.std.specs.Prelude.{◌≡◌, ℕ, ◌^◌, ◌<◌, List, Result, Ok, Err, nat_lt, ◌==◌, if◌then◌else◌}
+use Rattle.std.specs.Str.Parse.{IsNumeral, digits_value, without_leading_plus}
 use Rattle.protobuf_wire.specs.declared.fault.WireFault.{WireFault}
 use Rattle.protobuf_wire.specs.Wire.{Value, Field, varint, bytes}
 use Rattle.otlp_protobuf.specs.declared.protobuf_fault.ProtobufFault.TheVariants.{Wire}
@@ -28,6 +29,15 @@ told (Err fault) = 0
 
 abbrev pub rejected_in : List ℕ → ℕ
 rejected_in body = told (merged response_step 0 body)
+
+-- a text of digits that write a number of 64 bits tells that number, as 64-bit numbers stand in the JSON encoding, and
+-- any other text tells none
+abbrev pub IsNumber : List ℕ → Type 0
+IsNumber text = IsNumeral 10 (without_leading_plus text) × (digits_value 10 (without_leading_plus text) < 2 ^ 64)
+
+pub record IsToldBy (text : List ℕ) (told : ℕ) : Type 0 where
+  pub number : IsNumber text → told ≡ digits_value 10 (without_leading_plus text)
+  pub none : (IsNumber text → ⊥) → told ≡ 0
 
 -- what is answered is what is read
 abbrev pub Reads : Result ℕ WireFault → Read ℕ → Type 0

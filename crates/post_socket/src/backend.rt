@@ -5,6 +5,7 @@ use crate::bodies::protobuf_body;
 use crate::closing::{
     SLICE, attempt_limit, closing_since, milliseconds_asked, next_sleep, time_left,
 };
+use crate::connecting::{SocketLimits, found_at, limits_of, may_be_used};
 use crate::rejected::rejected_in;
 use crate::watch::Watch;
 use batch_post::{AttemptOutcome, Backend, BatchFate};
@@ -105,14 +106,12 @@ impl<'t, V: Watch, R: Net<Stream = TcpStream> + Clock + RandomSource> SocketBack
 
     /// The connection that is kept, where its peer neither closed it nor sent anything, or a new one.
     fn connection(&mut self, limit: u64) -> io::Result<TcpStream> {
-        let patience = Duration::from_millis(limit);
         let kept = self.stream.take();
         let stream = match kept {
             Some(stream) if is_quiet(&stream) => stream,
             _ => connect(self.rt, self.settings.authority, limit)?,
         };
-        stream.set_read_timeout(Some(patience))?;
-        stream.set_write_timeout(Some(patience))?;
+        set_limits(&stream, limits_of(limit))?;
         Ok(stream)
     }
 
@@ -200,10 +199,22 @@ fn is_quiet(stream: &TcpStream) -> bool {
     if stream.set_nonblocking(true).is_err() {
         return false;
     }
-    // What came unasked, an end too, would be read as the next answer (D-208).
-    let peeked = stream.peek(&mut byte);
-    let is_quiet = matches!(peeked, Err(error) if error.kind() == ErrorKind::WouldBlock);
-    is_quiet && stream.set_nonblocking(false).is_ok()
+    let found = match stream.peek(&mut byte) {
+        Ok(bytes) => found_at(Some(bytes), false),
+        Err(error) => found_at(None, error.kind() == ErrorKind::WouldBlock),
+    };
+    may_be_used(found) && stream.set_nonblocking(false).is_ok()
+}
+
+/// From now on reads and writes wait no longer than this.
+fn set_limits(stream: &TcpStream, limits: SocketLimits) -> io::Result<()> {
+    stream.set_read_timeout(duration_of(limits.read))?;
+    stream.set_write_timeout(duration_of(limits.write))
+}
+
+/// So many milliseconds.
+fn duration_of(milliseconds: Option<u64>) -> Option<Duration> {
+    Some(Duration::from_millis(milliseconds?))
 }
 
 impl<'t, V: Watch, R: Net<Stream = TcpStream> + Clock + RandomSource> Backend

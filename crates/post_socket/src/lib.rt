@@ -21,6 +21,7 @@
 mod backend;
 mod bodies;
 mod closing;
+mod connecting;
 mod rejected;
 mod watch;
 

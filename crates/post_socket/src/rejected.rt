@@ -1,5 +1,7 @@
 //! How many spans an answer says were rejected (OTLP 1.x, `ExportTracePartialSuccess`).
-ghost use Rattle.std.specs.Prelude.{◌≡◌};
+ghost use Rattle.std.specs.Prelude.{◌≡◌, ℕ, List};
+ghost use Rattle.serde_json.specs.Data.{number, string, unsigned};
+ghost use Rattle.serde_json.specs.View.{view};
 ghost use Rattle.protobuf_wire.specs.Seen.{seen_field};
 ghost use Rattle.otlp_protobuf.specs.Kinds.{merged};
 ghost use Rattle.otlp_encoding.specs.declared.encoding.Encoding.TheVariants.{Protobuf};
@@ -88,8 +90,19 @@ fn rejected_in_json(alloc: Global, body: &[u8]) -> u64 {
         return 0;
     };
     match value.pointer("/partialSuccess/rejectedSpans") {
-        Some(Value::Number(number)) => number.as_u64().unwrap_or(0),
-        Some(Value::String(text)) => text.as_str().parse::<u64>().unwrap_or(0),
+        Some(told) => number_of(told),
+        None => 0,
+    }
+}
+
+/// The number that a value tells, or the digits of a text; 0: none.
+fn number_of(value: &Value) -> u64
+    ensures number { (n : ℕ) → view value.now ≡ number (unsigned n) → result ≡ n }
+    ensures text { (digits : List ℕ) → view value.now ≡ string digits → spec.IsToldBy digits result }
+{
+    match value {
+        Value::Number(number) => number.as_u64().unwrap_or(0),
+        Value::String(text) => text.as_str().parse::<u64>().unwrap_or(0),
         _ => 0,
     }
 }
