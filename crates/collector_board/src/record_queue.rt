@@ -1,5 +1,6 @@
 //! What lanes and the ticker tell of what came, until it is written.
-ghost use Rattle.std.specs.Prelude.{◌≡◌, ◌+◌, nat_le};
+ghost use Rattle.std.specs.Prelude.{◌≡◌, ◌+◌, nat_le, IfOk};
+ghost use Rattle.collector_board.specs.Entries.{IsEntryOf};
 
 use crossbeam_queue::ArrayQueue;
 use line_entries::{Came, TakenRequest};
@@ -70,17 +71,10 @@ impl RecordQueue {
         encoding: Encoding,
         text: &[u8],
     ) -> bool {
-        let mut own = Vec::new(self.alloc);
-        if own.extend_from_slice(text).is_err() {
-            return false;
+        match entry_of(self.alloc, connection, moment, encoding, text) {
+            Ok(entry) => self.waiting.push(rt, entry).is_ok(),
+            Err(_) => false,
         }
-        let request = TakenRequest {
-            connection,
-            moment,
-            encoding,
-            text: own,
-        };
-        self.waiting.push(rt, Came::Request(request)).is_ok()
     }
 
     /// Puts a tick behind what waits, and counts it as lost where there is no room.
@@ -109,6 +103,26 @@ impl RecordQueue {
     pub fn lost(&self) -> u64 {
         self.lost.load(Ordering::Relaxed)
     }
+}
+
+/// What is to wait of a request: its connection, its moment, and a copy of its text.
+fn entry_of(
+    alloc: Global,
+    connection: u64,
+    moment: u64,
+    encoding: Encoding,
+    text: &[u8],
+) -> Result<Came, AllocError>
+    ensures { IfOk result (IsEntryOf connection moment encoding text.now) }
+{
+    let mut own = Vec::new(alloc);
+    own.extend_from_slice(text)?;
+    Ok(Came::Request(TakenRequest {
+        connection,
+        moment,
+        encoding,
+        text: own,
+    }))
 }
 
 /// Whether so many bytes may wait beside those that wait.

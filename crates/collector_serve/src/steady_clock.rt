@@ -5,7 +5,7 @@ ghost use Rattle.collector_serve.specs.Moments.{moment_after};
 
 use crate::wall_clock::WallClock;
 use collector_board::{Board, RecordQueue};
-use http_lane::Clock as Moments;
+use http_lane::{Clock as Moments, RequestsTold};
 use otlp_encoding::Encoding;
 use script_line::connection_number;
 use span_ids::ConnKey;
@@ -67,6 +67,9 @@ impl<'r, R: Clock + Wait> Moments for SteadyClock<'r, R> {
     // What a ledger's files have no clause can say.
     ghost kept = { λ _ _ _ _ _. ⊤ };
 
+    // Nor what stands in a queue that other threads push to.
+    ghost heard = { λ _ _ _. ⊤ };
+
     fn now(&self) -> u64 {
         let Some(began) = self.began else {
             return WallClock::new(self.rt).now();
@@ -78,7 +81,15 @@ impl<'r, R: Clock + Wait> Moments for SteadyClock<'r, R> {
         }
     }
 
-    fn took(&self, connection: ConnKey, moment: u64, encoding: Encoding, text: &[u8]) -> bool {
+    fn took(
+        &self,
+        told: &mut RequestsTold,
+        connection: ConnKey,
+        moment: u64,
+        encoding: Encoding,
+        text: &[u8],
+    ) -> bool {
+        told.add();
         self.records(connection, moment, encoding, text);
         let Some(board) = self.board else {
             return true;

@@ -1,6 +1,6 @@
 -- What events do, one after another.
 -- They serve the clauses of `write_text`, `respond`, `act`, `settle`, `wait` and `serve_turns`.
-use Rattle.std.proofs.Common.{false, ◌≡◌, ℕ, List, [], ◌∷◌, ◌++◌, Option, Some, None, sym, ap, ◌∙◌, refl, subst, append_assoc, append-nil, true, take, drop, ◌+◌, Bool, length, ◌<◌, arith, length-append, inr}
+use Rattle.std.proofs.Common.{false, ◌≡◌, ℕ, List, [], ◌∷◌, ◌++◌, Option, Some, None, sym, ap, ◌∙◌, refl, subst, append_assoc, append-nil, true, take, drop, ◌+◌, Bool, length, ◌<◌, arith, length-append, inl, inr, ◌⊎◌}
 use Rattle.std.specs.Prelude.{MatchOption, ◌||◌}
 use Rattle.std.proofs.Math.Seq.{take-add}
 use Rattle.std.specs.Io.KnownBytes.{Appends, Consumes}
@@ -70,7 +70,7 @@ pub submits-append : {L : Type 0} (submits : L → Submission → L → Type 0) 
 submits-append submits u v w [] ys x y = subst (λ l. SubmitsAll submits l ys w) x y
 submits-append submits u v w (s ∷ xs) ys x y = (x.0, x.1, submits-append submits x.0 v w xs ys x.2 y)
 
-submissions-append : (xs ys : List ConnectionEvent) → submissions (xs ++ ys) ≡ submissions xs ++ submissions ys
+pub submissions-append : (xs ys : List ConnectionEvent) → submissions (xs ++ ys) ≡ submissions xs ++ submissions ys
 submissions-append [] ys = refl
 submissions-append (e ∷ xs) ys = ap (λ l. submission_by e.fate e.encoding e.cause ++ l) (submissions-append xs ys) ∙ sym (append_assoc (submission_by e.fate e.encoding e.cause) (submissions xs) (submissions ys))
 
@@ -204,45 +204,71 @@ done_more submits t u v a b c rounds round d p =
     subst (λ es. Does submits t v a c es) (sym (events-append rounds (round ∷ []) ∙ ap (λ es. events_of rounds ++ es) (append-nil round.events)))
     (does_then submits t u v a b c (events_of rounds) round.events d p)
 
+events_more : (rounds : List ReadRound) (round : ReadRound) → events_of (rounds ++ round ∷ []) ≡ events_of rounds ++ round.events
+events_more rounds round = events-append rounds (round ∷ []) ∙ ap (λ es. events_of rounds ++ es) (append-nil round.events)
+
 -- one more round of a connection that is being served
 module _ {E L : Type 0} {stands : E → RequestReading → Type 0} {submits : L → Submission → L → Type 0} {t u : Option (List ℕ)} {a b : L} {old cur : KnownReader} {e : E} {row count : ℕ} where
   -- the connection goes on after it
   pub serving_more : (v : Option (List ℕ)) (c : L) (new : KnownReader) (e' : E) (row' : ℕ) (turn : ConnectionTurn) (is_stopped : Bool) (events : List ConnectionEvent) (reading : RequestReading)
       → (s : Serving stands submits t u a b old cur e row count) → IsRoundBy turn s.last is_stopped events (standing reading row' None) → stands e' reading → Rests reading
-      → Gives cur new (turn ∷ []) → Does submits u v b c events → Serving stands submits t v a c old new e' row' (count + 1)
-  serving_more v c new e' row' turn is_stopped events reading s r stood rests told did = record {
-    rounds = s.rounds ++ round_of turn is_stopped events ∷ [];
-    last = standing reading row' None;
-    run = rounds_more (at_first old.allowed) s.last (standing reading row' None) s.rounds (round_of turn is_stopped events) s.run s.goes_on r;
-    goes_on = refl;
-    stood = stood;
-    rests = rests;
-    row_is = refl;
-    count_is = omega (arith, length-append s.rounds (round_of turn is_stopped events ∷ []), s.count_is);
-    turns = turns_told old cur new s.rounds (round_of turn is_stopped events) s.turns told;
-    done = done_more submits t u v a b c s.rounds (round_of turn is_stopped events) s.done did;
-  }
+      → Gives cur new (turn ∷ []) → Does submits u v b c events → (now : Serving stands submits t v a c old new e' row' (count + 1)) × (events_of now.rounds ≡ events_of s.rounds ++ events)
+  serving_more v c new e' row' turn is_stopped events reading s r stood rests told did = (
+    record {
+      rounds = s.rounds ++ round_of turn is_stopped events ∷ [];
+      last = standing reading row' None;
+      run = rounds_more (at_first old.allowed) s.last (standing reading row' None) s.rounds (round_of turn is_stopped events) s.run s.goes_on r;
+      goes_on = refl;
+      stood = stood;
+      rests = rests;
+      row_is = refl;
+      count_is = omega (arith, length-append s.rounds (round_of turn is_stopped events ∷ []), s.count_is);
+      turns = turns_told old cur new s.rounds (round_of turn is_stopped events) s.turns told;
+      done = done_more submits t u v a b c s.rounds (round_of turn is_stopped events) s.done did;
+    },
+    events_more s.rounds (round_of turn is_stopped events),
+  )
 
   -- or ends with it
   pub serving_end : (v : Option (List ℕ)) (c : L) (new : KnownReader) (row' : ℕ) (turn : ConnectionTurn) (is_stopped : Bool) (events : List ConnectionEvent) (reading : RequestReading) (why : ServeEnd)
       → (s : Serving stands submits t u a b old cur e row count) → IsRoundBy turn s.last is_stopped events (standing reading row' (Some why)) → count < READ_LIMIT
-      → Gives cur new (turn ∷ []) → Does submits u v b c events → Served submits t v a c old new why
+      → Gives cur new (turn ∷ []) → Does submits u v b c events → (served : Served submits t v a c old new why) × (events_of served.0 ≡ events_of s.rounds ++ events)
   serving_end v c new row' turn is_stopped events reading why s r few told did = (
-    s.rounds ++ round_of turn is_stopped events ∷ [],
-    record {
-      last = standing reading row' (Some why);
-      run = rounds_more (at_first old.allowed) s.last (standing reading row' (Some why)) s.rounds (round_of turn is_stopped events) s.run s.goes_on r;
-      few = omega (arith, length-append s.rounds (round_of turn is_stopped events ∷ []), s.count_is);
-      ends = refl;
-    },
-    turns_told old cur new s.rounds (round_of turn is_stopped events) s.turns told,
-    done_more submits t u v a b c s.rounds (round_of turn is_stopped events) s.done did,
+    (
+      s.rounds ++ round_of turn is_stopped events ∷ [],
+      record {
+        last = standing reading row' (Some why);
+        run = rounds_more (at_first old.allowed) s.last (standing reading row' (Some why)) s.rounds (round_of turn is_stopped events) s.run s.goes_on r;
+        few = omega (arith, length-append s.rounds (round_of turn is_stopped events ∷ []), s.count_is);
+        ends = refl;
+      },
+      turns_told old cur new s.rounds (round_of turn is_stopped events) s.turns told,
+      done_more submits t u v a b c s.rounds (round_of turn is_stopped events) s.done did,
+    ),
+    events_more s.rounds (round_of turn is_stopped events),
   )
 
   -- or ends with it where the reader gives no more
   pub serving_stop : (new : KnownReader) (turn : ConnectionTurn) (why : ServeEnd) → (s : Serving stands submits t u a b old cur e row count) → IsRoundBy turn s.last false [] (standing s.last.reading 0 (Some why)) → count < READ_LIMIT
-      → Gives cur new (turn ∷ []) → Served submits t u a b old new why
+      → Gives cur new (turn ∷ []) → (served : Served submits t u a b old new why) × (events_of served.0 ≡ events_of s.rounds ++ [])
   serving_stop new turn why s r few told = serving_end u b new 0 turn false [] s.last.reading why s r few told (does_none submits u b)
+
+  -- or all reads were made
+  pub serving_over : (s : Serving stands submits t u a b old cur e row count) → count ≡ READ_LIMIT → (served : Served submits t u a b old cur Turns) × (events_of served.0 ≡ events_of s.rounds)
+  serving_over s over = (
+    (
+      s.rounds,
+      record {
+        last = s.last;
+        run = s.run;
+        few = omega (arith, s.count_is, over);
+        ends = subst (λ (o : Option ServeEnd). MatchOption o (((Turns ≡ Turns) × (length s.rounds ≡ READ_LIMIT)) ⊎ ((Turns ≡ NoMemory) × (s.rounds ≡ []))) (λ why. Turns ≡ why)) (sym s.goes_on) (inl (refl, s.count_is ∙ over));
+      },
+      s.turns,
+      s.done,
+    ),
+    refl,
+  )
 
 -- events that submit nothing leave the lane
 pub does_still : {L : Type 0} (submits : L → Submission → L → Type 0) (u v : Option (List ℕ)) (lane : L) (events : List ConnectionEvent) (bytes : List ℕ)
@@ -268,16 +294,19 @@ counted_text Unwritten f = refl
 
 -- a connection of which nothing has been read
 pub serving_first : {E L : Type 0} (awaits : E → RequestReading → Type 0) (submits : L → Submission → L → Type 0) (text : Option (List ℕ)) (lane : L) (reader : KnownReader) (engine : E) → awaits engine (in_head reader.allowed [])
-    → Serving awaits submits text text lane lane reader reader engine 0 0
-serving_first awaits submits text lane reader engine a = record { rounds = []; last = at_first reader.allowed; run = refl; goes_on = refl; stood = a; rests = refl; row_is = refl; count_is = refl; turns = gives_none reader; done = does_none submits text lane }
+    → (now : Serving awaits submits text text lane lane reader reader engine 0 0) × (now.rounds ≡ [])
+serving_first awaits submits text lane reader engine a = (record { rounds = []; last = at_first reader.allowed; run = refl; goes_on = refl; stood = a; rests = refl; row_is = refl; count_is = refl; turns = gives_none reader; done = does_none submits text lane }, refl)
 
 -- no read was made, for want of memory
-pub served_nothing : {L : Type 0} (submits : L → Submission → L → Type 0) (text : Option (List ℕ)) (lane : L) (reader : KnownReader) → Served submits text text lane lane reader reader NoMemory
+pub served_nothing : {L : Type 0} (submits : L → Submission → L → Type 0) (text : Option (List ℕ)) (lane : L) (reader : KnownReader) → (served : Served submits text text lane lane reader reader NoMemory) × (served.0 ≡ [])
 served_nothing submits text lane reader = (
-  [],
-  record { last = at_first reader.allowed; run = refl; few = omega arith; ends = inr (refl, refl) },
-  gives_none reader,
-  does_none submits text lane,
+  (
+    [],
+    record { last = at_first reader.allowed; run = refl; few = omega arith; ends = inr (refl, refl) },
+    gives_none reader,
+    does_none submits text lane,
+  ),
+  refl,
 )
 
 -- ---- whether a request was answered

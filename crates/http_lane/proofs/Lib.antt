@@ -9,3 +9,4 @@ mod TurnLemmas
 mod TurnPieces
 mod UnpackLemmas
 mod KeptLemmas
+mod TellingLemmas

@@ -63,34 +63,38 @@ abbrev pub Does : {L : Type 0} → (L → Submission → L → Type 0) → Optio
 Does submits old_text new_text old new events =
     (bytes : List ℕ) × Appends old_text new_text bytes × Writes events bytes × SubmitsAll submits old (submissions events) new
 
--- what the engine's bytes brought, until they brought nothing more or the connection ended
-abbrev pub SettledTo : {E L : Type 0} → (awaits : E → RequestReading → Type 0) → (L → Submission → L → Type 0) → Option (List ℕ) → Option (List ℕ) → L → L → RequestReading → Option ServeEnd → E → Type 0
-SettledTo awaits submits old_text new_text old new r end engine =
+-- what the engine's bytes brought, until they brought nothing more or the connection ended; `tells` holds of what the lane
+-- was handed
+abbrev pub SettledTo : {E L : Type 0} → (awaits : E → RequestReading → Type 0) → (L → Submission → L → Type 0) → (tells : List Submission → Type 0) → Option (List ℕ) → Option (List ℕ) → L → L → RequestReading → Option ServeEnd → E → Type 0
+SettledTo awaits submits tells old_text new_text old new r end engine =
     (events : List ConnectionEvent) × (last : RequestReading) × Settles r events end last × (end ≡ None → awaits engine last) × Does submits old_text new_text old new events
+    × tells (submissions events)
 
 -- the same, and whether a request was answered
-abbrev pub Settled : {E L : Type 0} → (awaits : E → RequestReading → Type 0) → (L → Submission → L → Type 0) → Option (List ℕ) → Option (List ℕ) → L → L → RequestReading → (Option ServeEnd × Bool) → E → Type 0
-Settled awaits submits old_text new_text old new r settled engine =
+abbrev pub Settled : {E L : Type 0} → (awaits : E → RequestReading → Type 0) → (L → Submission → L → Type 0) → (tells : List Submission → Type 0) → Option (List ℕ) → Option (List ℕ) → L → L → RequestReading → (Option ServeEnd × Bool) → E → Type 0
+Settled awaits submits tells old_text new_text old new r settled engine =
     (events : List ConnectionEvent) × (last : RequestReading) × Settles r events settled.0 last × (settled.0 ≡ None → awaits engine last) × Does submits old_text new_text old new events × (settled.1 ≡ has_answer events)
+    × tells (submissions events)
 
--- one event: its cause is true of `brings`, and this was done for it
-pub record Did {L : Type 0} (submits : L → Submission → L → Type 0) (old_text new_text : Option (List ℕ)) (old new : L) (encoding : Encoding) (cause : Cause) (closing : Bool) (fate : EventFate) : Type 0 where
+-- one event: its cause is true of `brings`, and this was done for it; `tells` holds of what the lane was handed
+pub record Did {L : Type 0} (submits : L → Submission → L → Type 0) (tells : List Submission → Type 0) (old_text new_text : Option (List ℕ)) (old new : L) (encoding : Encoding) (cause : Cause) (closing : Bool) (fate : EventFate) : Type 0 where
   pub can : can_be fate cause ≡ true
   pub closes : closes_of cause ≡ closing
   pub puts : Puts old_text new_text fate (text_of encoding cause)
   pub lane : SubmitsAll submits old (submission_by fate encoding cause) new
+  pub told : tells (submission_by fate encoding cause)
 
 -- a whole body was served
-abbrev pub Responds : {L : Type 0} → (L → Submission → L → Type 0) → Option (List ℕ) → Option (List ℕ) → L → L → Encoding → (limit : ℕ) → Bool → Option (List ℕ) → Bool → (Bool × EventFate) → Type 0
-Responds submits old_text new_text old new encoding limit is_packed body closing r =
-    (cause : Cause) × Serves limit is_packed body closing cause × Did submits old_text new_text old new encoding cause r.0 r.1
+abbrev pub Responds : {L : Type 0} → (L → Submission → L → Type 0) → (tells : List Submission → Type 0) → Option (List ℕ) → Option (List ℕ) → L → L → Encoding → (limit : ℕ) → Bool → Option (List ℕ) → Bool → (Bool × EventFate) → Type 0
+Responds submits tells old_text new_text old new encoding limit is_packed body closing r =
+    (cause : Cause) × Serves limit is_packed body closing cause × Did submits tells old_text new_text old new encoding cause r.0 r.1
 
 -- one step of serving, from a reading
-abbrev pub Acts : {E L : Type 0} → (stands awaits : E → RequestReading → Type 0) → (L → Submission → L → Type 0) → Option (List ℕ) → Option (List ℕ) → L → L → RequestReading → Option (Bool × EventFate × Bool) → E → Type 0
-Acts stands awaits submits old_text new_text old new r None engine = Rests r × awaits engine r × (new_text ≡ old_text) × (new ≡ old)
-Acts stands awaits submits old_text new_text old new r (Some done) engine =
+abbrev pub Acts : {E L : Type 0} → (stands awaits : E → RequestReading → Type 0) → (L → Submission → L → Type 0) → (tells : List Submission → Type 0) → Option (List ℕ) → Option (List ℕ) → L → L → RequestReading → Option (Bool × EventFate × Bool) → E → Type 0
+Acts stands awaits submits tells old_text new_text old new r None engine = Rests r × awaits engine r × (new_text ≡ old_text) × (new ≡ old) × tells []
+Acts stands awaits submits tells old_text new_text old new r (Some done) engine =
     (cause : Cause) × (next : RequestReading) × Brings r cause next × (end_with done.1 done.0 ≡ None → stands engine next) × (told : Encoding) × (told ≡ encoding_in r)
-    × Did submits old_text new_text old new told cause done.0 done.1 × (answers cause ≡ done.2)
+    × Did submits tells old_text new_text old new told cause done.0 done.1 × (answers cause ≡ done.2)
 
 abbrev pub IsOpenAfter : Option (Bool × EventFate × Bool) → Type 0
 IsOpenAfter None = ⊥

@@ -22,6 +22,7 @@ mod reads;
 mod requests;
 mod serving;
 mod stage;
+mod told;
 mod turns;
 
 pub use answer::{QUIET_LIMIT, READ_LIMIT, REQUEST_LIMIT, ReadTurn, SLOW_LIMIT, ServeEnd};
@@ -34,4 +35,5 @@ pub use lent::{Clock, HasStopMark, Lent};
 pub use reads::{PIECE_LIMIT, Reads, Source};
 pub use requests::Requests;
 pub use serving::serve;
+pub use told::RequestsTold;
 pub use turns::{Arrived, Exchange, IDLE_LIMIT};

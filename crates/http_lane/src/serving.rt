@@ -1,13 +1,14 @@
 //! The loop of a connection.
-ghost use Rattle.std.specs.Prelude.{◌≡◌, ◌+◌, ◌⊎◌, [], ℕ, ◌<◌, ◌≤◌, List, ◌++◌, IsTrue, take, IfOk, Option, Some, Bool, false, true, ◌^◌, ◌-◌, nat_le, if◌then◌else◌};
+ghost use Rattle.std.specs.Prelude.{◌≡◌, ◌+◌, ◌⊎◌, [], ℕ, ◌<◌, ◌≤◌, List, ◌++◌, IsTrue, take, IfOk, Option, Some, Bool, false, true, ◌^◌, ◌-◌, nat_le, if◌then◌else◌, MatchBool};
 ghost use Rattle.lane_seq.specs.Replies.{is_received};
 ghost use Rattle.http_lane.specs.Intake.{Submits, intake, first_conn, connected};
+ghost use Rattle.http_lane.specs.Telling.{TellsTaken, AreHeard, taken_of};
 ghost use Rattle.lane_seq.specs.declared.preparing.Conn.{Conn};
 ghost use Rattle.std.specs.Io.KnownBytes.{Appends};
 ghost use Rattle.http_answer.specs.Answer.{text_of_answer};
 ghost use Rattle.http_lane.specs.Connection.{RequestReading, IsTextOf};
 ghost use Rattle.http_lane.specs.Engine.{Puts, Settled, SettledTo, Responds, Acts, IsOpenAfter, IsFateOfText, Lapses, Waits, Served, Sees};
-ghost use Rattle.http_lane.specs.Connection.{end_with, ConnectionStanding, in_head, is_between, encoding_in};
+ghost use Rattle.http_lane.specs.Connection.{end_with, ConnectionStanding, in_head, is_between, encoding_in, submissions, events_of};
 ghost use Rattle.http_lane.specs.declared.answer.ServeEnd.TheVariants.{Closed, Cut};
 
 use crate::answer::{
@@ -17,6 +18,7 @@ use crate::engine::Engine;
 use crate::lent::{Clock, HasStopMark, Lent};
 use crate::reads::{PIECE_LIMIT, Source};
 use crate::requests::Requests;
+use crate::told::RequestsTold;
 use drop_ledger::Counter;
 use http_answer::{Response, status_of, text_of};
 use inflate::gunzip;
@@ -85,6 +87,7 @@ fn submit<
     Time: Clock,
 >(
     lent: &Lent<'l, Mark, Time>,
+    told: &mut RequestsTold,
     lane: &mut Lane<ShardPort>,
     conn: &mut Conn,
     counts: &mut Ledger,
@@ -93,7 +96,7 @@ fn submit<
     text: &[u8],
     says_close: bool,
 ) -> (bool, EventFate)
-    ensures responds { (limit : ℕ) (is_packed : Bool) (body : List ℕ) → IsTextOf limit is_packed body text.now → Responds (Submits ShardPort.takes ShardPort.refuses) (Writer.contents writer.old) (Writer.contents writer.new) (intake lane.old conn.old (Ledger.counted counts.old)) (intake lane.new conn.new (Ledger.counted counts.new)) encoding limit is_packed (Some body) says_close result }
+    ensures responds { (limit : ℕ) (is_packed : Bool) (body : List ℕ) → IsTextOf limit is_packed body text.now → Responds (Submits ShardPort.takes ShardPort.refuses) (TellsTaken (Time.heard lent.now.clock.now) told.old told.new conn.old.key conn.new.key) (Writer.contents writer.old) (Writer.contents writer.new) (intake lane.old conn.old (Ledger.counted counts.old)) (intake lane.new conn.new (Ledger.counted counts.new)) encoding limit is_packed (Some body) says_close result }
     // Nothing is written to a client whose spans were received, and whose request isn't kept.
     ensures kept { result.1 ≡ EventFate.Written → (conn.new ≡ conn.old) ⊎ ((moment : ℕ) × Time.kept lent.now.clock.now conn.old.key moment encoding text.now) }
 {
@@ -103,7 +106,7 @@ fn submit<
         return (says_close, EventFate::Uncounted);
     }
     // Nobody is told 200 whose request isn't kept where it has to be: the connection ends, and the client sends it again.
-    if !is_kept(lent, connection, moment, encoding, text, &reply) {
+    if !is_kept(lent, told, connection, moment, encoding, text, &reply) {
         return (says_close, EventFate::Unwritten);
     }
     let replied = Response::Replied {
@@ -116,16 +119,18 @@ fn submit<
 /// Tells of a request that was taken, and answers whether it may be answered.
 fn is_kept<'l, Mark: HasStopMark, Time: Clock>(
     lent: &Lent<'l, Mark, Time>,
+    told: &mut RequestsTold,
     connection: ConnKey,
     moment: u64,
     encoding: Encoding,
     text: &[u8],
     reply: &Reply,
 ) -> bool
-    ensures { result ≡ true → is_received reply.now ≡ true → Time.kept lent.now.clock.now connection moment encoding text.now }
+    ensures kept { result ≡ true → is_received reply.now ≡ true → Time.kept lent.now.clock.now connection moment encoding text.now }
+    ensures told { MatchBool (is_received reply.now) (Time.heard lent.now.clock.now told.old (record { connection = connection; moment = moment; encoding = encoding; text = text.now }) × (told.new ≡ told.old + 1)) (told.new ≡ told.old) }
 {
     if reply.is_received() {
-        return lent.clock.took(connection, moment, encoding, text);
+        return lent.clock.took(told, connection, moment, encoding, text);
     }
     true
 }
@@ -140,6 +145,7 @@ fn unpack<
     Time: Clock,
 >(
     lent: &Lent<'l, Mark, Time>,
+    told: &mut RequestsTold,
     lane: &mut Lane<ShardPort>,
     conn: &mut Conn,
     counts: &mut Ledger,
@@ -149,12 +155,13 @@ fn unpack<
     says_close: bool,
     limit: u32,
 ) -> (bool, EventFate)
-    ensures { Responds (Submits ShardPort.takes ShardPort.refuses) (Writer.contents writer.old) (Writer.contents writer.new) (intake lane.old conn.old (Ledger.counted counts.old)) (intake lane.new conn.new (Ledger.counted counts.new)) encoding limit true (Some body.now) says_close result }
+    ensures { Responds (Submits ShardPort.takes ShardPort.refuses) (TellsTaken (Time.heard lent.now.clock.now) told.old told.new conn.old.key conn.new.key) (Writer.contents writer.old) (Writer.contents writer.new) (intake lane.old conn.old (Ledger.counted counts.old)) (intake lane.new conn.new (Ledger.counted counts.new)) encoding limit true (Some body.now) says_close result }
 {
     // What gives no text closes the connection, as what can't be read by HTTP does (D-122).
     match gunzip(lent.alloc, body, limit as usize) {
         Ok(text) => submit(
             lent,
+            told,
             lane,
             conn,
             counts,
@@ -177,6 +184,7 @@ fn respond<
     Time: Clock,
 >(
     lent: &Lent<'l, Mark, Time>,
+    told: &mut RequestsTold,
     lane: &mut Lane<ShardPort>,
     conn: &mut Conn,
     counts: &mut Ledger,
@@ -187,7 +195,7 @@ fn respond<
     says_close: bool,
     limit: u32,
 ) -> (bool, EventFate)
-    ensures { (given : Option (List ℕ)) → Sees body.entry given → Responds (Submits ShardPort.takes ShardPort.refuses) (Writer.contents writer.old) (Writer.contents writer.new) (intake lane.old conn.old (Ledger.counted counts.old)) (intake lane.new conn.new (Ledger.counted counts.new)) encoding limit is_packed given says_close result }
+    ensures { (given : Option (List ℕ)) → Sees body.entry given → Responds (Submits ShardPort.takes ShardPort.refuses) (TellsTaken (Time.heard lent.now.clock.now) told.old told.new conn.old.key conn.new.key) (Writer.contents writer.old) (Writer.contents writer.new) (intake lane.old conn.old (Ledger.counted counts.old)) (intake lane.new conn.new (Ledger.counted counts.new)) encoding limit is_packed given says_close result }
 {
     let Some(body) = body else {
         return (true, answer(lent, encoding, writer, &Response::Starved));
@@ -198,10 +206,12 @@ fn respond<
     }
     if is_packed {
         return unpack(
-            lent, lane, conn, counts, writer, encoding, body, says_close, limit,
+            lent, told, lane, conn, counts, writer, encoding, body, says_close, limit,
         );
     }
-    submit(lent, lane, conn, counts, writer, encoding, body, says_close)
+    submit(
+        lent, told, lane, conn, counts, writer, encoding, body, says_close,
+    )
 }
 
 /// Does what the bytes bring next, if they bring anything. The last flag says whether a request was answered.
@@ -216,12 +226,13 @@ fn act<
 >(
     lent: &Lent<'l, Mark, Time>,
     engine: &mut Parser,
+    told: &mut RequestsTold,
     lane: &mut Lane<ShardPort>,
     conn: &mut Conn,
     counts: &mut Ledger,
     writer: &mut Writer,
 ) -> Option<(bool, EventFate, bool)>
-    ensures acts { (r : RequestReading) → Parser.stands engine.old r → Acts Parser.stands Parser.awaits (Submits ShardPort.takes ShardPort.refuses) (Writer.contents writer.old) (Writer.contents writer.new) (intake lane.old conn.old (Ledger.counted counts.old)) (intake lane.new conn.new (Ledger.counted counts.new)) r result engine.new }
+    ensures acts { (r : RequestReading) → Parser.stands engine.old r → Acts Parser.stands Parser.awaits (Submits ShardPort.takes ShardPort.refuses) (TellsTaken (Time.heard lent.now.clock.now) told.old told.new conn.old.key conn.new.key) (Writer.contents writer.old) (Writer.contents writer.new) (intake lane.old conn.old (Ledger.counted counts.old)) (intake lane.new conn.new (Ledger.counted counts.new)) r result engine.new }
     ensures less { IsOpenAfter result → Parser.left engine.new < Parser.left engine.old }
 {
     // Before `advance`: once a body is whole the engine awaits the next head, and has JSON again (D-112).
@@ -256,7 +267,8 @@ fn act<
         } => {
             let body = engine.body();
             let (closes, fate) = respond(
-                lent, lane, conn, counts, writer, encoding, is_packed, body, says_close, limit,
+                lent, told, lane, conn, counts, writer, encoding, is_packed, body, says_close,
+                limit,
             );
             Some((closes, fate, true))
         }
@@ -275,15 +287,16 @@ pub(crate) fn settle<
 >(
     lent: &Lent<'l, Mark, Time>,
     engine: &mut Parser,
+    told: &mut RequestsTold,
     lane: &mut Lane<ShardPort>,
     conn: &mut Conn,
     counts: &mut Ledger,
     writer: &mut Writer,
 ) -> (Option<ServeEnd>, bool)
-    ensures { (r : RequestReading) → Parser.stands engine.old r → Settled Parser.awaits (Submits ShardPort.takes ShardPort.refuses) (Writer.contents writer.old) (Writer.contents writer.new) (intake lane.old conn.old (Ledger.counted counts.old)) (intake lane.new conn.new (Ledger.counted counts.new)) r result engine.new }
+    ensures { (r : RequestReading) → Parser.stands engine.old r → Settled Parser.awaits (Submits ShardPort.takes ShardPort.refuses) (TellsTaken (Time.heard lent.now.clock.now) told.old told.new conn.old.key conn.new.key) (Writer.contents writer.old) (Writer.contents writer.new) (intake lane.old conn.old (Ledger.counted counts.old)) (intake lane.new conn.new (Ledger.counted counts.new)) r result engine.new }
 {
     let mut answered = false;
-    while let Some((closes, fate, answers)) = act(lent, engine, lane, conn, counts, writer) {
+    while let Some((closes, fate, answers)) = act(lent, engine, told, lane, conn, counts, writer) {
         answered = answered | answers;
         if let Some(end) = end_with(fate, closes) {
             return (Some(end), answered);
@@ -304,14 +317,15 @@ fn settle_to_end<
 >(
     lent: &Lent<'l, Mark, Time>,
     engine: &mut Parser,
+    told: &mut RequestsTold,
     lane: &mut Lane<ShardPort>,
     conn: &mut Conn,
     counts: &mut Ledger,
     writer: &mut Writer,
 ) -> Option<ServeEnd>
-    ensures { (r : RequestReading) → Parser.stands engine.old r → SettledTo Parser.awaits (Submits ShardPort.takes ShardPort.refuses) (Writer.contents writer.old) (Writer.contents writer.new) (intake lane.old conn.old (Ledger.counted counts.old)) (intake lane.new conn.new (Ledger.counted counts.new)) r result engine.new }
+    ensures { (r : RequestReading) → Parser.stands engine.old r → SettledTo Parser.awaits (Submits ShardPort.takes ShardPort.refuses) (TellsTaken (Time.heard lent.now.clock.now) told.old told.new conn.old.key conn.new.key) (Writer.contents writer.old) (Writer.contents writer.new) (intake lane.old conn.old (Ledger.counted counts.old)) (intake lane.new conn.new (Ledger.counted counts.new)) r result engine.new }
 {
-    let (end, _) = settle(lent, engine, lane, conn, counts, writer);
+    let (end, _) = settle(lent, engine, told, lane, conn, counts, writer);
     end
 }
 
@@ -386,6 +400,7 @@ fn serve_turns<
 >(
     lent: &Lent<'l, Mark, Time>,
     engine: &mut Parser,
+    told: &mut RequestsTold,
     lane: &mut Lane<ShardPort>,
     conn: &mut Conn,
     counts: &mut Ledger,
@@ -393,7 +408,8 @@ fn serve_turns<
     writer: &mut Writer,
 ) -> ServeEnd
     requires { Parser.awaits engine.old (in_head (Reader.given reader.old).allowed []) }
-    ensures { Served (Submits ShardPort.takes ShardPort.refuses) (Writer.contents writer.old) (Writer.contents writer.new) (intake lane.old conn.old (Ledger.counted counts.old)) (intake lane.new conn.new (Ledger.counted counts.new)) (Reader.given reader.old) (Reader.given reader.new) result }
+    ensures { (served : Served (Submits ShardPort.takes ShardPort.refuses) (Writer.contents writer.old) (Writer.contents writer.new) (intake lane.old conn.old (Ledger.counted counts.old)) (intake lane.new conn.new (Ledger.counted counts.new)) (Reader.given reader.old) (Reader.given reader.new) result)
+        × TellsTaken (Time.heard lent.now.clock.now) told.old told.new conn.old.key conn.new.key (submissions (events_of served.0)) }
 {
     let mut piece = [0; PIECE_LIMIT];
     let mut row = 0;
@@ -403,7 +419,7 @@ fn serve_turns<
             ReadTurn::Gave(n) => {
                 row = 0;
                 engine.take(&piece[..n]);
-                if let Some(end) = settle_to_end(lent, engine, lane, conn, counts, writer) {
+                if let Some(end) = settle_to_end(lent, engine, told, lane, conn, counts, writer) {
                     return end;
                 }
             }
@@ -444,13 +460,28 @@ pub fn serve<
     writer: &mut Writer,
 ) -> ServeEnd
     requires { lane.old.connected < 2 ^ 64 - 1 }
-    ensures { (conn : Conn) × Served (Submits ShardPort.takes ShardPort.refuses) (Writer.contents writer.old) (Writer.contents writer.new)
+    ensures served { (conn : Conn) × Served (Submits ShardPort.takes ShardPort.refuses) (Writer.contents writer.old) (Writer.contents writer.new)
         (intake (connected lane.old) (first_conn lane.old) (Ledger.counted counter.old)) (intake lane.new conn (Ledger.counted counter.new))
         (Reader.given reader.old) (Reader.given reader.new) result }
+    // The clock was told of the requests that were taken, in the order in which they were received.
+    ensures told { (conn : Conn) × (served : Served (Submits ShardPort.takes ShardPort.refuses) (Writer.contents writer.old) (Writer.contents writer.new)
+        (intake (connected lane.old) (first_conn lane.old) (Ledger.counted counter.old)) (intake lane.new conn (Ledger.counted counter.new))
+        (Reader.given reader.old) (Reader.given reader.new) result)
+        × AreHeard (Time.heard lent.now.clock.now) 0 (taken_of (first_conn lane.old).key (submissions (events_of served.0))) }
 {
     let mut conn = lane.connect();
+    let mut told = RequestsTold::new();
     match Requests::new(lent.alloc, reader.allowed()) {
-        Ok(mut engine) => serve_turns(lent, &mut engine, lane, &mut conn, counter, reader, writer),
+        Ok(mut engine) => serve_turns(
+            lent,
+            &mut engine,
+            &mut told,
+            lane,
+            &mut conn,
+            counter,
+            reader,
+            writer,
+        ),
         Err(_) => ServeEnd::NoMemory,
     }
 }

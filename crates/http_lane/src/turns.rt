@@ -1,6 +1,7 @@
 //! One turn of a connection among many.
 ghost use Rattle.std.specs.Prelude.{◌≡◌, ◌+◌, ◌<◌, ◌≤◌, [], ℕ, List, Option, None, Bool, false, IfSome, IfNone, length, nat_le, ◌||◌, if◌then◌else◌};
 ghost use Rattle.http_lane.specs.Intake.{Submits, intake};
+ghost use Rattle.http_lane.specs.Telling.{TellsTaken};
 ghost use Rattle.std.specs.Io.KnownBytes.{Appends};
 ghost use Rattle.http_lane.specs.Connection.{RequestReading, ConnectionEvent, in_head, is_between, encoding_in, grown, Writes, submissions};
 ghost use Rattle.http_lane.specs.declared.answer.ServeEnd.TheVariants.{Closed, Cut};
@@ -15,6 +16,7 @@ use crate::lent::{Clock, HasStopMark, Lent};
 use crate::reads::PIECE_LIMIT;
 use crate::requests::Requests;
 use crate::serving::{is_over, lapse, settle};
+use crate::told::RequestsTold;
 use drop_ledger::Counter;
 use http_text::Allowed;
 use lane_queue::Port;
@@ -87,6 +89,7 @@ impl Exchange {
     >(
         &mut self,
         lent: &Lent<'l, Mark, Time>,
+        told: &mut RequestsTold,
         spare: &mut Option<Requests>,
         lane: &mut Lane<ShardPort>,
         counts: &mut Ledger,
@@ -99,7 +102,8 @@ impl Exchange {
         ensures turn { (w : Waiting) → AwaitsBy arrived.entry.allowed Awaits self.old.engine w.reading → self.old.since ≡ w.since
             → (coming : Coming) × (events : List ConnectionEvent) × (next : Waiting) × IsTaken arrived.entry.piece.now coming × IsTurnBy coming w arrived.entry.moment false events next × (next.end ≡ result)
             × (result ≡ None → AwaitsBy arrived.entry.allowed Awaits self.new.engine next.reading × (self.new.since ≡ next.since))
-            × Does (Submits ShardPort.takes ShardPort.refuses) (Writer.contents writer.old) (Writer.contents writer.new) (intake lane.old self.old.conn (Ledger.counted counts.old)) (intake lane.new self.new.conn (Ledger.counted counts.new)) events }
+            × Does (Submits ShardPort.takes ShardPort.refuses) (Writer.contents writer.old) (Writer.contents writer.new) (intake lane.old self.old.conn (Ledger.counted counts.old)) (intake lane.new self.new.conn (Ledger.counted counts.new)) events
+            × TellsTaken (Time.heard lent.now.clock.now) told.old told.new self.old.conn.key self.new.conn.key (submissions events) }
         ensures spare { IfSome spare.new (λ engine. Awaits engine (in_head arrived.entry.allowed [])) }
     {
         let Arrived {
@@ -114,6 +118,7 @@ impl Exchange {
         let (end, answered) = come(
             lent,
             &mut engine,
+            told,
             lane,
             &mut self.conn,
             counts,
@@ -241,6 +246,7 @@ fn come<
 >(
     lent: &Lent<'l, Mark, Time>,
     engine: &mut Parser,
+    told: &mut RequestsTold,
     lane: &mut Lane<ShardPort>,
     conn: &mut Conn,
     counts: &mut Ledger,
@@ -249,8 +255,8 @@ fn come<
 ) -> (Option<ServeEnd>, bool)
     requires rests { IsAtRest Parser.awaits engine.old }
     requires fits { length piece.now ≤ PIECE_LIMIT }
-    ensures { (r : RequestReading) → Parser.awaits engine.old r → Settled Parser.awaits (Submits ShardPort.takes ShardPort.refuses) (Writer.contents writer.old) (Writer.contents writer.new) (intake lane.old conn.old (Ledger.counted counts.old)) (intake lane.new conn.new (Ledger.counted counts.new)) (grown r piece.now) result engine.new }
+    ensures { (r : RequestReading) → Parser.awaits engine.old r → Settled Parser.awaits (Submits ShardPort.takes ShardPort.refuses) (TellsTaken (Time.heard lent.now.clock.now) told.old told.new conn.old.key conn.new.key) (Writer.contents writer.old) (Writer.contents writer.new) (intake lane.old conn.old (Ledger.counted counts.old)) (intake lane.new conn.new (Ledger.counted counts.new)) (grown r piece.now) result engine.new }
 {
     engine.take(piece);
-    settle(lent, engine, lane, conn, counts, writer)
+    settle(lent, engine, told, lane, conn, counts, writer)
 }

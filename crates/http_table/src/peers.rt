@@ -1,7 +1,7 @@
 //! What a connection is served with: a reader of pieces, a writer with room, a stop mark and a clock.
 ghost use Rattle.std.specs.Prelude.{None, Some, ⊤};
 
-use http_lane::{Clock, HasStopMark};
+use http_lane::{Clock, HasStopMark, RequestsTold};
 use otlp_encoding::Encoding;
 use span_ids::ConnKey;
 use std::cell::Cell;
@@ -132,7 +132,17 @@ impl Clock for Ticks {
 
     ghost kept = { λ _ _ _ _ _. ⊤ };
 
-    fn took(&self, _connection: ConnKey, _moment: u64, _encoding: Encoding, _text: &[u8]) -> bool {
+    ghost heard = { λ _ _ _. ⊤ };
+
+    fn took(
+        &self,
+        told: &mut RequestsTold,
+        _connection: ConnKey,
+        _moment: u64,
+        _encoding: Encoding,
+        _text: &[u8],
+    ) -> bool {
+        told.add();
         true
     }
 }

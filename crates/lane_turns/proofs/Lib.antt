@@ -1,3 +1,4 @@
 pub mod Runs
 mod Uncounted
 mod Told
+mod Taken

@@ -1,5 +1,5 @@
 -- What a lane did for all its connections, turn by turn, in the order in which it did that.
-use Rattle.std.specs.Prelude.{◌≡◌, ◌≢◌, ℕ, ◌<◌, ◌≤◌, ◌==◌, Bool, true, false, not, List, [], ◌∷◌, ◌++◌, Option, Some, None, MatchBool}
+use Rattle.std.specs.Prelude.{◌≡◌, ◌≢◌, ℕ, ◌+◌, ◌<◌, ◌≤◌, ◌==◌, Bool, true, false, not, List, [], ◌∷◌, ◌++◌, length, flat_map, Option, Some, None, MatchBool}
 use Rattle.std.specs.List.{list_any}
 use Rattle.lane_seq.specs.Pushes.{LaneState}
 use Rattle.lane_seq.specs.declared.preparing.Conn.{Conn}
@@ -10,6 +10,7 @@ use Rattle.http_lane.specs.declared.answer.ServeEnd.TheVariants.{CounterOverflow
 use Rattle.http_lane.specs.Connection.{Submission, SubmitsAll, submissions}
 use Rattle.http_lane.specs.Intake.{Intake, intake, connected}
 use Rattle.http_lane.specs.Requests.{Awaits}
+use Rattle.http_lane.specs.Telling.{TakenRequest, taken_of, AreHeard}
 use Rattle.http_lane.specs.Turns.{Waiting, came_at, Turned, IsTurn, AwaitsBy}
 use Rattle.lane_turns.specs.declared.serving.Done.{Done}
 use Rattle.lane_turns.specs.declared.serving.Done.TheVariants.{Turned as HadTurn}
@@ -126,6 +127,24 @@ is_full_done _ = false
 abbrev pub GoesOn : {P : Type 0} → (submits : Intake P → Submission → Intake P → Type 0) → (allowed : Allowed) → (old_open : (key : ℕ) → Option Exchange) → (old : LaneNow P) → (new_open : (key : ℕ) → Option Exchange) → (new : LaneNow P) → (is_full : Bool) → (by : (earlier more : List Act) → Type 0) → Type 0
 GoesOn {P} submits allowed old_open old new_open new is_full by = (number : ℕ) (first : LaneNow P) (acts : List Act) → Fits submits allowed number first old_open acts old
     → (more : List Act) × Fits submits allowed number first new_open (acts ++ more) new × (acts_uncounted more ≡ is_full) × by acts more
+
+-- the requests that were taken in an act of this lane, and in acts, in the order in which the lane received them
+abbrev pub act_taken : (number : ℕ) → Act → List TakenRequest
+act_taken number (took ordinal moment) = []
+act_taken number (had ordinal before after t) = taken_of (conn_of number ordinal before).key (submissions t.events)
+
+abbrev pub acts_taken : (number : ℕ) → List Act → List TakenRequest
+acts_taken number acts = flat_map (λ (a : Act). act_taken number a) acts
+
+-- none was
+abbrev pub TakesNone : List Act → Type 0
+TakesNone acts = (number : ℕ) → acts_taken number acts ≡ []
+
+-- While this lane did these acts its clock was told of just the requests that were taken, in their order. It had been told
+-- of `before` requests, and then of `after`.
+pub record TellsActs (heard : (place : ℕ) → TakenRequest → Type 0) (before after number : ℕ) (acts : List Act) : Type 0 where
+  pub told : AreHeard heard before (acts_taken number acts)
+  pub all : after ≡ before + length (acts_taken number acts)
 
 -- each open connection awaits more of some reading
 abbrev pub AllAwait : (allowed : Allowed) → (open_at : (key : ℕ) → Option Exchange) → Type 0

@@ -4,7 +4,8 @@ ghost use Rattle.slab.specs.Slab.{get, ContainsKey};
 ghost use Rattle.http_lane.specs.Intake.{Submits};
 ghost use Rattle.http_lane.specs.Connection.{in_head};
 ghost use Rattle.http_lane.specs.Requests.{Awaits};
-ghost use Rattle.lane_turns.specs.Acts.{lane_now, GoesOn, AllAwait, ServesTurns, is_full_done, is_full_end};
+ghost use Rattle.http_lane.specs.Telling.{AreHeard};
+ghost use Rattle.lane_turns.specs.Acts.{lane_now, GoesOn, AllAwait, ServesTurns, TellsActs, acts_taken, is_full_done, is_full_end};
 ghost use Rattle.lane_turns.specs.Driven.{AsTold, TellsTurn, IsDriven};
 ghost use Rattle.lane_turns.specs.Driving.{FitsNext};
 ghost use Rattle.lane_turns.specs.declared.serving.Next.{Next};
@@ -15,7 +16,8 @@ ghost use Rattle.http_text.specs.declared.allowed.Allowed.{Allowed};
 use crate::table::{Leaving, came, dismiss, leave, take, waited};
 use drop_ledger::Counter;
 use http_lane::{
-    Arrived, Clock as Moments, Exchange, HasStopMark, Lent, PIECE_LIMIT, Requests, ServeEnd,
+    Arrived, Clock as Moments, Exchange, HasStopMark, Lent, PIECE_LIMIT, Requests, RequestsTold,
+    ServeEnd,
 };
 use http_text::Allowed;
 use lane_queue::Port;
@@ -88,6 +90,7 @@ fn turn<'l, ShardPort: Port<Item>, Ledger: Counter, Mark: HasStopMark, Time: Mom
     next: Next,
     moment: u64,
     piece: &[u8],
+    told: &mut RequestsTold,
     table: &mut Slab<Exchange>,
     spare: &mut Option<Requests>,
     lane: &mut Lane<ShardPort>,
@@ -99,7 +102,7 @@ fn turn<'l, ShardPort: Port<Item>, Ledger: Counter, Mark: HasStopMark, Time: Mom
     requires at { AllAwait allowed (get table.old) }
     requires spare { IfSome spare.old (λ engine. Awaits engine (in_head allowed [])) }
     ensures fits { GoesOn (Submits ShardPort.takes ShardPort.refuses) allowed (get table.old) (lane_now lane.old (Ledger.counted counts.old)) (get table.new) (lane_now lane.new (Ledger.counted counts.new)) (is_full_done result)
-        (λ earlier. AsTold allowed (get table.old) (get table.new) earlier next moment piece.now result text.new.items) }
+        (λ earlier more. AsTold allowed (get table.old) (get table.new) earlier next moment piece.now result text.new.items more × TellsActs (Time.heard lent.now.clock.now) told.old told.new lane.old.number more) }
     ensures spare { IfSome spare.new (λ engine. Awaits engine (in_head allowed [])) }
 {
     text.clear();
@@ -115,7 +118,7 @@ fn turn<'l, ShardPort: Port<Item>, Ledger: Counter, Mark: HasStopMark, Time: Mom
                 moment,
                 allowed,
             };
-            let end = came(lent, table, key, spare, lane, counts, text, arrived);
+            let end = came(lent, told, table, key, spare, lane, counts, text, arrived);
             turned(table, key, end)
         }
         Next::Look { key } => {
@@ -199,10 +202,14 @@ pub fn serve_turns<
 ) -> bool
     ensures served { ServesTurns (Submits ShardPort.takes ShardPort.refuses) allowed (lane_now lane.old (Ledger.counted counts.old)) (lane_now lane.new (Ledger.counted counts.new)) result }
     ensures driven { IsDriven Poller.asks Poller.hears (Submits ShardPort.takes ShardPort.refuses) allowed driver.old (lane_now lane.old (Ledger.counted counts.old)) driver.new (lane_now lane.new (Ledger.counted counts.new)) result }
+    // Its clock was told of the requests that were taken, in the order in which they were received.
+    ensures told { (served : ServesTurns (Submits ShardPort.takes ShardPort.refuses) allowed (lane_now lane.old (Ledger.counted counts.old)) (lane_now lane.new (Ledger.counted counts.new)) result)
+        × AreHeard (Time.heard lent.now.clock.now) 0 (acts_taken lane.old.number served.acts) }
 {
     let mut table = Slab::new(lent.alloc);
     // The engine that the last whole request left, for whichever connection begins the next one.
     let mut spare = None;
+    let mut told = RequestsTold::new();
     let mut piece = [0; PIECE_LIMIT];
     let mut text = Vec::new(lent.alloc);
     for _ in rt.forever() {
@@ -211,7 +218,8 @@ pub fn serve_turns<
             return false;
         }
         let done = turn(
-            lent, allowed, next, moment, &piece, &mut table, &mut spare, lane, counts, &mut text,
+            lent, allowed, next, moment, &piece, &mut told, &mut table, &mut spare, lane, counts,
+            &mut text,
         );
         driver.done(done, &text);
         if is_full(&done) {

@@ -6,12 +6,14 @@ ghost use Rattle.http_lane.specs.Intake.{Submits};
 ghost use Rattle.http_lane.specs.Connection.{in_head, is_between};
 ghost use Rattle.http_lane.specs.Requests.{Awaits};
 ghost use Rattle.http_lane.specs.Turns.{Waiting, AwaitsBy, IsTaken, nothing};
-ghost use Rattle.lane_turns.specs.Acts.{lane_now, GoesOn, is_full_end};
+ghost use Rattle.lane_turns.specs.Acts.{lane_now, GoesOn, is_full_end, TakesNone, TellsActs};
 ghost use Rattle.lane_turns.specs.Driven.{AnyOne, TurnAt, TakesOne, Dismisses, coming_of};
 ghost use Rattle.http_text.specs.declared.allowed.Allowed.{Allowed};
 
 use drop_ledger::Counter;
-use http_lane::{Arrived, Clock, Exchange, HasStopMark, Lent, PIECE_LIMIT, Requests, ServeEnd};
+use http_lane::{
+    Arrived, Clock, Exchange, HasStopMark, Lent, PIECE_LIMIT, Requests, RequestsTold, ServeEnd,
+};
 use http_text::Allowed;
 use lane_queue::Port;
 use lane_seq::Lane;
@@ -30,6 +32,7 @@ pub(crate) fn came<
     Time: Clock,
 >(
     lent: &Lent<'l, Mark, Time>,
+    told: &mut RequestsTold,
     open: &mut Slab<Exchange>,
     key: usize,
     spare: &mut Option<Requests>,
@@ -43,13 +46,14 @@ pub(crate) fn came<
     requires at { (x : Exchange) → get «open».old key ≡ Some x → (w : Waiting) × AwaitsBy arrived.allowed Awaits x.engine w.reading }
     requires spare { IfSome spare.old (λ engine. Awaits engine (in_head arrived.allowed [])) }
     ensures fits { GoesOn (Submits ShardPort.takes ShardPort.refuses) arrived.entry.allowed (get «open».old) (lane_now lane.old (Ledger.counted counts.old)) (get «open».new) (lane_now lane.new (Ledger.counted counts.new)) (is_full_end result)
-        (TurnAt arrived.entry.allowed (get «open».old) (get «open».new) key arrived.entry.moment AnyOne (IsTaken arrived.entry.piece.now) (Appends (Writer.contents writer.old) (Writer.contents writer.new)) result) }
+        (λ earlier more. TurnAt arrived.entry.allowed (get «open».old) (get «open».new) key arrived.entry.moment AnyOne (IsTaken arrived.entry.piece.now) (Appends (Writer.contents writer.old) (Writer.contents writer.new)) result earlier more
+        × TellsActs (Time.heard lent.now.clock.now) told.old told.new lane.old.number more) }
     ensures others { (other : ℕ) → other ≢ key → get «open».new other ≡ get «open».old other }
     ensures spare { IfSome spare.new (λ engine. Awaits engine (in_head arrived.entry.allowed [])) }
 {
     let mut exchange = open.remove(key);
     // It is out of the table meanwhile: what ends is gone, what doesn't goes back to the key that it left.
-    let end = exchange.came(lent, spare, lane, counts, writer, arrived);
+    let end = exchange.came(lent, told, spare, lane, counts, writer, arrived);
     if let Some(why) = end {
         return Some(why);
     }
@@ -87,7 +91,7 @@ pub(crate) fn waited<
 ) -> Option<ServeEnd>
     requires { ContainsKey «open».old key }
     ensures fits { (allowed : Allowed) → GoesOn (Submits ShardPort.takes ShardPort.refuses) allowed (get «open».old) (lane_now lane.now (Ledger.counted counts.now)) (get «open».new) (lane_now lane.now (Ledger.counted counts.now)) (is_full_end result)
-        (TurnAt allowed (get «open».old) (get «open».new) key moment AnyOne (λ coming. coming ≡ nothing) (Appends (Writer.contents writer.old) (Writer.contents writer.new)) result) }
+        (λ earlier more. TurnAt allowed (get «open».old) (get «open».new) key moment AnyOne (λ coming. coming ≡ nothing) (Appends (Writer.contents writer.old) (Writer.contents writer.new)) result earlier more × TakesNone more) }
     ensures others { (other : ℕ) → other ≢ key → get «open».new other ≡ get «open».old other }
 {
     let exchange = open.remove(key);
@@ -110,7 +114,7 @@ pub fn leave<P: Port<Item>, C: Counter>(
 ) -> ServeEnd
     requires { ContainsKey «open».old key }
     ensures fits { (allowed : Allowed) → GoesOn (Submits P.takes P.refuses) allowed (get «open».old) (lane_now lane.now (C.counted counts.now)) (get «open».new) (lane_now lane.now (C.counted counts.now)) (is_full_end (Some result))
-        (TurnAt allowed (get «open».old) (get «open».new) key moment AnyOne (λ coming. coming ≡ coming_of how) (λ text. text ≡ []) (Some result)) }
+        (λ earlier more. TurnAt allowed (get «open».old) (get «open».new) key moment AnyOne (λ coming. coming ≡ coming_of how) (λ text. text ≡ []) (Some result) earlier more × TakesNone more) }
     ensures others { (other : ℕ) → other ≢ key → get «open».new other ≡ get «open».old other }
 {
     let exchange = open.remove(key);
@@ -130,7 +134,7 @@ pub fn dismiss<P: Port<Item>, C: Counter>(
     moment: u64,
 ) -> Option<ServeEnd>
     ensures fits { (allowed : Allowed) → GoesOn (Submits P.takes P.refuses) allowed (get «open».old) (lane_now lane.now (C.counted counts.now)) (get «open».new) (lane_now lane.now (C.counted counts.now)) (is_full_end result)
-        (Dismisses allowed (get «open».old) (get «open».new) key moment result) }
+        (λ earlier more. Dismisses allowed (get «open».old) (get «open».new) key moment result earlier more × TakesNone more) }
     ensures others { (other : ℕ) → other ≢ key → get «open».new other ≡ get «open».old other }
 {
     if !is_idle(open, key) {

@@ -1,7 +1,7 @@
 //! Connections, a sink, a stop mark and a clock in memory.
 ghost use Rattle.std.specs.Prelude.{◌≡◌, IfOk, None, Some, ⊤};
 
-use http_lane::{Clock as MomentClock, HasStopMark, Reads};
+use http_lane::{Clock as MomentClock, HasStopMark, Reads, RequestsTold};
 use http_text::Allowed;
 use lane_worker::{Acceptor, Ticks};
 use otlp_encoding::Encoding;
@@ -119,7 +119,17 @@ impl MomentClock for Standing {
 
     ghost kept = { λ _ _ _ _ _. ⊤ };
 
-    fn took(&self, _connection: ConnKey, _moment: u64, _encoding: Encoding, _text: &[u8]) -> bool {
+    ghost heard = { λ _ _ _. ⊤ };
+
+    fn took(
+        &self,
+        told: &mut RequestsTold,
+        _connection: ConnKey,
+        _moment: u64,
+        _encoding: Encoding,
+        _text: &[u8],
+    ) -> bool {
+        told.add();
         true
     }
 }

@@ -1,8 +1,13 @@
 use Rattle.std.proofs.Common.{ap, refl, subst, sym, []}
 use Rattle.http_lane.specs.Connection.{accepts, refusal, close_asked, text_of}
 use Rattle.http_lane.specs.Engine.{Puts}
+use Rattle.http_lane.proofs.TellingLemmas.{tells_none}
 use Rattle.http_lane.proofs.EventLemmas.{can_text, never_open, Appends-none, serves_answers}
 use Rattle.http_lane.proofs.serving.act.Goals as goal
+
+pub returns-in-Nothing-clause-acts : goal.returns-in-Nothing-clause-acts
+returns-in-Nothing-clause-acts g c = λ r stands.
+    let found = c.in-Nothing.ensures.brings r stands in (found.0, found.1, refl, refl, tells_none (g.Time.Clock.heard c.args.lent.now.clock.now) c.args.told.now c.args.conn.now.key)
 
 pub returns-in-Refused-clause-acts : goal.returns-in-Refused-clause-acts
 returns-in-Refused-clause-acts g c = λ r stands.
@@ -19,6 +24,7 @@ returns-in-Refused-clause-acts g c = λ r stands.
         closes = refl;
         puts = c.answer.ensures.puts;
         lane = refl;
+        told = tells_none (g.Time.Clock.heard c.args.lent.now.clock.now) c.args.told.now c.args.conn.now.key;
       },
       refl,
     )
@@ -37,6 +43,7 @@ returns-in-Close-clause-acts g c = λ r stands.
         closes = refl;
         puts = c.answer-in-Close.ensures.puts;
         lane = refl;
+        told = tells_none (g.Time.Clock.heard c.args.lent.now.clock.now) c.args.told.now c.args.conn.now.key;
       },
       refl,
     )
@@ -58,6 +65,7 @@ returns-in-Accepted-true-clause-acts g c = λ r stands.
         puts = subst (λ a. Puts (known c.args.writer.now) (known c.answer-in-Accepted-true.new.writer) c.answer-in-Accepted-true.result (text_of c.encoding-encoding.result (accepts a)))
             (sym c.in-Accepted-true.awaited-test) c.answer-in-Accepted-true.ensures.puts;
         lane = refl;
+        told = tells_none (g.Time.Clock.heard c.args.lent.now.clock.now) c.args.told.now c.args.conn.now.key;
       },
       refl,
     )
@@ -77,6 +85,7 @@ returns-in-Accepted-false-clause-acts g c = λ r stands.
         closes = refl;
         puts = ([], Appends-none (g.Writer.Write.contents c.args.writer.now), ap (λ a. text_of c.encoding-encoding.result (accepts a)) (sym c.in-Accepted-false.awaited-test));
         lane = refl;
+        told = tells_none (g.Time.Clock.heard c.args.lent.now.clock.now) c.args.told.now c.args.conn.now.key;
       },
       refl,
     )

@@ -3,9 +3,10 @@ use Rattle.std.specs.Prelude.{slice_index_or}
 use Rattle.slab.specs.Slab.{get}
 use Rattle.http_lane.specs.Intake.{Submits}
 use Rattle.lane_turns.specs.declared.serving.Next.{Next}
-use Rattle.lane_turns.specs.Acts.{lane_now}
+use Rattle.lane_turns.specs.Acts.{lane_now, TellsActs}
 use Rattle.lane_turns.specs.Driven.{Table, DriverRound, IsRound, RunsFrom}
 use Rattle.lane_turns.proofs.Runs.{fits_first}
+use Rattle.lane_turns.proofs.Taken.{tells_nothing, tells_acts}
 use Rattle.lane_turns.proofs.Told.{more_rounds, last_round}
 use Rattle.lane_turns.proofs.Uncounted.{acts_more}
 use Rattle.lane_turns.proofs.serving.serve_turns.Goals as goal
@@ -25,6 +26,7 @@ loop-init g c =
         rounds,
         subst (λ (o : Table). RunsFrom g.Poller.Driver.asks g.Poller.Driver.hears submits c.args.allowed first c.args.driver.now o [] first rounds last after is_full) (λ i key. empty key i) run,
       ),
+      subst (λ (n : ℕ). TellsActs (g.Time.Clock.heard c.args.lent.now.clock.now) 0 n c.args.lane.now.number []) (sym c.new-told.ensures) (tells_nothing (g.Time.Clock.heard c.args.lent.now.clock.now) 0 c.args.lane.now.number [] (λ n. refl)),
     )
 
 pub returns-then-is_over-clause-driven : goal.returns-then-is_over-clause-driven
@@ -38,6 +40,34 @@ returns-then-is_over-clause-driven g c =
       over.1,
       refl,
       refl,
+    )
+
+pub returns-then-is_over-clause-told : goal.returns-then-is_over-clause-told
+returns-then-is_over-clause-told g c = (
+  record {
+    acts = c.loop.invariant.3;
+    open_at = get c.loop.table;
+    fits = c.loop.invariant.4;
+    full = c.loop.invariant.5;
+    all_over = λ e. (c.is_over.ensures.over c.if-is_over.true).1;
+  },
+  c.loop.invariant.7.told,
+)
+
+pub returns-then-is_full-clause-told : goal.returns-then-is_full-clause-told
+returns-then-is_full-clause-told g c =
+    let acts = c.loop.invariant.3 in
+    let went = c.turn-done.ensures.fits c.args.lane.now.number (lane_now c.args.lane.now (g.Ledger.Counter.counted c.args.counts.now)) acts c.loop.invariant.4 in
+    let told = tells_acts (g.Time.Clock.heard c.args.lent.now.clock.now) 0 c.loop.told c.turn-done.new.told c.args.lane.now.number acts went.0 c.loop.invariant.7
+    (subst (λ (n : ℕ). TellsActs (g.Time.Clock.heard c.args.lent.now.clock.now) c.loop.told c.turn-done.new.told n went.0) c.loop.invariant.4.number_is went.3.1) in (
+      record {
+        acts = acts ++ went.0;
+        open_at = get c.turn-done.new.table;
+        fits = went.1;
+        full = acts_more acts went.0 c.loop.invariant.5 ∙ (went.2 ∙ (sym c.is_full.ensures ∙ c.if-is_full.true));
+        all_over = λ e. absurd cc;
+      },
+      told.told,
     )
 
 pub turn-done-requires-clause-at : goal.turn-done-requires-clause-at
@@ -66,7 +96,7 @@ returns-then-is_full-clause-driven g c =
     let is_round : IsRound g.Poller.Driver.asks g.Poller.Driver.hears submits c.args.allowed first c.loop.driver (get c.loop.table) acts round = record {
       said = c.next-next.ensures.said;
       still_open = c.is_over.ensures.goes_on c.if-is_over.false;
-      as_told = went.3;
+      as_told = went.3.0;
       fits = went.1;
       heard = subst (λ (text : List ℕ). g.Poller.Driver.hears c.next-next.new.self c.turn-done.result text c.done.new.self) c.deref.ensures.value c.done.ensures;
     } in
@@ -96,7 +126,7 @@ loop-preserved g c =
     let is_round : IsRound g.Poller.Driver.asks g.Poller.Driver.hears submits c.args.allowed first c.loop.driver (get c.loop.table) acts round = record {
       said = c.next-next.ensures.said;
       still_open = c.is_over.ensures.goes_on c.if-is_over.false;
-      as_told = went.3;
+      as_told = went.3.0;
       fits = went.1;
       heard = subst (λ (text : List ℕ). g.Poller.Driver.hears c.next-next.new.self c.turn-done.result text c.done.new.self) c.deref.ensures.value c.done.ensures;
     } in
@@ -109,4 +139,6 @@ loop-preserved g c =
       acts_more acts went.0 c.loop.invariant.5 ∙ (went.2 ∙ goes_on),
       λ rounds last after is_full run. c.loop.invariant.6 (round ∷ rounds) last after is_full
           (more_rounds g.Poller.Driver.asks g.Poller.Driver.hears submits c.args.allowed first c.loop.driver (get c.loop.table) acts now round rounds last after is_full is_round goes_on run),
+      tells_acts (g.Time.Clock.heard c.args.lent.now.clock.now) 0 c.loop.told c.turn-done.new.told c.args.lane.now.number acts went.0 c.loop.invariant.7
+          (subst (λ (n : ℕ). TellsActs (g.Time.Clock.heard c.args.lent.now.clock.now) c.loop.told c.turn-done.new.told n went.0) c.loop.invariant.4.number_is went.3.1),
     )

@@ -15,12 +15,15 @@ returns-then-not-is_idle-clause-fits g c = λ allowed number first acts f.
       [],
       subst (λ l. Fits (Submits g.P.Port.takes g.P.Port.refuses) allowed number first (get c.args.open.now) l now) (sym (append-nil acts)) f,
       refl,
-      inr (
-        λ x at.
-            let o = f.each c.args.key x at in
-            an_engine Awaits allowed x.engine o.waiting.reading o.awaits (sym (c.is_idle.ensures.idle x at allowed o.waiting o.awaits) ∙ c.if-not-is_idle.true),
-        refl,
-        (refl, λ key. refl),
+      (
+        inr (
+          λ x at.
+              let o = f.each c.args.key x at in
+              an_engine Awaits allowed x.engine o.waiting.reading o.awaits (sym (c.is_idle.ensures.idle x at allowed o.waiting o.awaits) ∙ c.if-not-is_idle.true),
+          refl,
+          (refl, λ key. refl),
+        ),
+        λ n. refl,
       ),
     )
 
@@ -37,12 +40,15 @@ returns-clause-fits g c = λ allowed number first acts f.
           c.remove.ensures.updates.others f dismissed c.args.moment false [] next x.conn c.args.lane.now (g.C.Counter.counted c.args.counts.now) (idle, refl, refl) refl
           (λ y e. absurd (let none = sym gone ∙ e in cc)) (λ e. absurd cc),
       refl,
-      inl (
-        x,
-        at,
-        no_engine Awaits allowed x.engine o.waiting.reading o.awaits idle,
-        has_turn allowed acts x c.args.moment (λ coming. coming ≡ dismissed) (λ text. text ≡ []) (Some Quiet) o.waiting dismissed false [] next x.conn.next []
-            o.run o.goes_on (idle, refl, refl) refl refl refl refl,
-        (gone, c.remove.ensures.updates.others),
+      (
+        inl (
+          x,
+          at,
+          no_engine Awaits allowed x.engine o.waiting.reading o.awaits idle,
+          has_turn allowed acts x c.args.moment (λ coming. coming ≡ dismissed) (λ text. text ≡ []) (Some Quiet) o.waiting dismissed false [] next x.conn.next []
+              o.run o.goes_on (idle, refl, refl) refl refl refl refl,
+          (gone, c.remove.ensures.updates.others),
+        ),
+        λ n. refl,
       ),
     )

@@ -24,12 +24,15 @@ returns-in-Over-clause-fits g c = λ allowed number first acts f.
           (λ y e. absurd (let none = sym gone ∙ e in cc)) (λ e. absurd cc),
       over_full c.over.result (is_between o.waiting.reading) (c.over.ensures allowed o.waiting o.awaits),
       (
-        x,
-        at,
-        tt,
-        has_turn allowed acts x c.args.moment (λ coming. coming ≡ coming_of c.args.how) (λ text. text ≡ []) (Some c.over.result) o.waiting over false [] next x.conn.next []
-            o.run o.goes_on (refl, refl) (sym (ap coming_of c.in-Over.is)) (sym (ap Some (c.over.ensures allowed o.waiting o.awaits))) refl refl,
-        (gone, c.remove-exchange.ensures.updates.others),
+        (
+          x,
+          at,
+          tt,
+          has_turn allowed acts x c.args.moment (λ coming. coming ≡ coming_of c.args.how) (λ text. text ≡ []) (Some c.over.result) o.waiting over false [] next x.conn.next []
+              o.run o.goes_on (refl, refl) (sym (ap coming_of c.in-Over.is)) (sym (ap Some (c.over.ensures allowed o.waiting o.awaits))) refl refl,
+          (gone, c.remove-exchange.ensures.updates.others),
+        ),
+        λ n. refl,
       ),
     )
 
@@ -46,12 +49,15 @@ returns-in-ReadFailed-clause-fits g c = λ allowed number first acts f.
           (λ y e. absurd (let none = sym gone ∙ e in cc)) (λ e. absurd cc),
       refl,
       (
-        x,
-        at,
-        tt,
-        has_turn allowed acts x c.args.moment (λ coming. coming ≡ coming_of c.args.how) (λ text. text ≡ []) (Some ReadFault) o.waiting read_failed false [] next x.conn.next []
-            o.run o.goes_on (refl, refl) (sym (ap coming_of c.in-ReadFailed.is)) refl refl refl,
-        (gone, c.remove-exchange.ensures.updates.others),
+        (
+          x,
+          at,
+          tt,
+          has_turn allowed acts x c.args.moment (λ coming. coming ≡ coming_of c.args.how) (λ text. text ≡ []) (Some ReadFault) o.waiting read_failed false [] next x.conn.next []
+              o.run o.goes_on (refl, refl) (sym (ap coming_of c.in-ReadFailed.is)) refl refl refl,
+          (gone, c.remove-exchange.ensures.updates.others),
+        ),
+        λ n. refl,
       ),
     )
 
@@ -68,11 +74,14 @@ returns-clause-fits g c = λ allowed number first acts f.
           (λ y e. absurd (let none = sym gone ∙ e in cc)) (λ e. absurd cc),
       refl,
       (
-        x,
-        at,
-        tt,
-        has_turn allowed acts x c.args.moment (λ coming. coming ≡ coming_of c.args.how) (λ text. text ≡ []) (Some WriteFault) o.waiting write_failed false [] next x.conn.next []
-            o.run o.goes_on (refl, refl) (sym (ap coming_of c.in-WriteFailed.is)) refl refl refl,
-        (gone, c.remove-exchange.ensures.updates.others),
+        (
+          x,
+          at,
+          tt,
+          has_turn allowed acts x c.args.moment (λ coming. coming ≡ coming_of c.args.how) (λ text. text ≡ []) (Some WriteFault) o.waiting write_failed false [] next x.conn.next []
+              o.run o.goes_on (refl, refl) (sym (ap coming_of c.in-WriteFailed.is)) refl refl refl,
+          (gone, c.remove-exchange.ensures.updates.others),
+        ),
+        λ n. refl,
       ),
     )

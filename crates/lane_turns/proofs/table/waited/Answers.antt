@@ -1,11 +1,12 @@
-use Rattle.std.proofs.Common.{◌≡◌, ◌∙◌, [], ◌∷◌, Some, None, refl, sym, ap, subst}
+use Rattle.std.proofs.Common.{◌≡◌, ◌∙◌, List, [], ◌∷◌, ◌++◌, Some, None, refl, sym, ap, subst}
 use Rattle.std.specs.Io.KnownBytes.{Appends}
 use Rattle.slab.specs.Slab.{get}
-use Rattle.http_lane.specs.Connection.{SubmitsAll}
+use Rattle.http_lane.specs.Connection.{Submission, SubmitsAll}
+use Rattle.http_lane.specs.Telling.{taken_of}
 use Rattle.http_lane.specs.Intake.{Submits, intake}
 use Rattle.http_lane.specs.declared.turns.Exchange.{Exchange}
 use Rattle.http_lane.specs.Turns.{waiting, turned, nothing}
-use Rattle.lane_turns.specs.Acts.{lane_now, had, is_full_end}
+use Rattle.lane_turns.specs.Acts.{lane_now, had, conn_of, is_full_end}
 use Rattle.lane_turns.proofs.Runs.{Left, fits_turn, one_of}
 use Rattle.lane_turns.proofs.Told.{has_turn}
 use Rattle.lane_turns.proofs.Uncounted.{one_full, turn_full}
@@ -27,12 +28,15 @@ returns-in-Some-clause-fits g c = λ allowed number first acts f.
           (λ y e. absurd (let none = sym gone ∙ e in cc)) (λ e. absurd (let some = sym e ∙ c.in-Some.is in cc)),
       one_full (had x.conn.key.ordinal x.conn.next x.conn.next (turned nothing c.args.moment t.0 t.1)) _ (turn_full nothing o.waiting c.args.moment t.0 t.1 next t.2 ∙ ap is_full_end c.in-Some.is),
       (
-        x,
-        at,
-        tt,
-        has_turn allowed acts x c.args.moment (λ coming. coming ≡ nothing) (Appends (g.Writer.Write.contents c.args.writer.now) (g.Writer.Write.contents c.waited-end.new.writer)) (Some c.in-Some.why) o.waiting nothing t.0 t.1 next x.conn.next t.3
-            o.run o.goes_on t.2 refl c.in-Some.is t.5 t.4,
-        (gone, c.remove-exchange.ensures.updates.others),
+        (
+          x,
+          at,
+          tt,
+          has_turn allowed acts x c.args.moment (λ coming. coming ≡ nothing) (Appends (g.Writer.Write.contents c.args.writer.now) (g.Writer.Write.contents c.waited-end.new.writer)) (Some c.in-Some.why) o.waiting nothing t.0 t.1 next x.conn.next t.3
+              o.run o.goes_on t.2 refl c.in-Some.is t.5 t.4,
+          (gone, c.remove-exchange.ensures.updates.others),
+        ),
+        λ n. ap (λ (ss : List Submission). taken_of (conn_of n x.conn.key.ordinal x.conn.next).key ss ++ []) t.6,
       ),
     )
 
@@ -55,14 +59,17 @@ returns-clause-fits g c = λ allowed number first acts f.
           (λ e. (x, here)),
       one_full (had x.conn.key.ordinal x.conn.next x.conn.next (turned nothing c.args.moment t.0 t.1)) _ (turn_full nothing o.waiting c.args.moment t.0 t.1 next t.2 ∙ ap is_full_end c.in_default.is),
       (
-        x,
-        at,
-        tt,
-        has_turn allowed acts x c.args.moment (λ coming. coming ≡ nothing) (Appends (g.Writer.Write.contents c.args.writer.now) (g.Writer.Write.contents c.waited-end.new.writer)) None o.waiting nothing t.0 t.1 next x.conn.next t.3
-            o.run o.goes_on t.2 refl c.in_default.is t.5 t.4,
         (
-          (x, here, refl),
-          λ other ne. c.insert_reserved.ensures.updates.others other (λ e. ne (e ∙ place)) ∙ c.remove-exchange.ensures.updates.others other ne,
+          x,
+          at,
+          tt,
+          has_turn allowed acts x c.args.moment (λ coming. coming ≡ nothing) (Appends (g.Writer.Write.contents c.args.writer.now) (g.Writer.Write.contents c.waited-end.new.writer)) None o.waiting nothing t.0 t.1 next x.conn.next t.3
+              o.run o.goes_on t.2 refl c.in_default.is t.5 t.4,
+          (
+            (x, here, refl),
+            λ other ne. c.insert_reserved.ensures.updates.others other (λ e. ne (e ∙ place)) ∙ c.remove-exchange.ensures.updates.others other ne,
+          ),
         ),
+        λ n. ap (λ (ss : List Submission). taken_of (conn_of n x.conn.key.ordinal x.conn.next).key ss ++ []) t.6,
       ),
     )

@@ -5,6 +5,7 @@ use Rattle.http_lane.specs.Connection.{grown, in_head, Settles}
 use Rattle.http_lane.specs.Turns.{waiting, came, unkept, since_after, AwaitsBy}
 use Rattle.http_lane.specs.Requests.{Awaits}
 use Rattle.http_lane.proofs.EventLemmas.{does_none}
+use Rattle.http_lane.proofs.TellingLemmas.{tells_none}
 use Rattle.http_lane.proofs.TurnLemmas.{between_head, none_between, awaits_packed, still_packed, since_same}
 use Rattle.http_lane.proofs.turns.Exchange.came.Goals as goal
 
@@ -18,6 +19,7 @@ returns-in_default-clause-turn g c = λ w at since. (
   refl,
   (λ e. absurd cc),
   does_none (Submits g.ShardPort.Port.takes g.ShardPort.Port.refuses) (g.Writer.Write.contents c.args.writer.now) (intake c.args.lane.now c.args.self.now.conn (g.Ledger.Counter.counted c.args.counts.now)),
+  tells_none (g.Time.Clock.heard c.args.lent.now.clock.now) c.args.told.now c.args.self.now.conn.key,
 )
 
 pub returns-in-Some-end-clause-turn : goal.returns-in-Some-end-clause-turn
@@ -31,6 +33,7 @@ returns-in-Some-end-clause-turn g c = λ w at since.
       refl,
       (λ e. absurd cc),
       s.4,
+      s.6,
     )
 
 pub returns-then-is_between-clause-turn : goal.returns-then-is_between-clause-turn
@@ -50,6 +53,7 @@ returns-then-is_between-clause-turn g c = λ w at since.
         c.since_after-self.ensures ∙ since_same _ _ _ _ _ _ c.args.arrived.moment _ _ (c.is_between-is_between.ensures s.1 awaits) (c.is_between-begins.ensures c.args.arrived.allowed w at) s.5 since,
       )),
       s.4,
+      s.6,
     )
 
 pub returns-then-is_between-clause-spare : goal.returns-then-is_between-clause-spare
@@ -78,4 +82,5 @@ returns-clause-turn g c = λ w at since.
         c.since_after-self.ensures ∙ since_same _ _ _ _ _ _ c.args.arrived.moment _ _ (c.is_between-is_between.ensures s.1 awaits) (c.is_between-begins.ensures c.args.arrived.allowed w at) s.5 since,
       )),
       s.4,
+      s.6,
     )
