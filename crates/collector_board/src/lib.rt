@@ -23,6 +23,7 @@ mod stopping_sink;
 mod trace_questions;
 mod watched_destination;
 mod watching;
+mod write_news;
 mod write_watch;
 
 pub use board::Board;
