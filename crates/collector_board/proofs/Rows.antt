@@ -1,10 +1,13 @@
 -- Worked rows, computed: how long a write stalls, for how long decisions are told and questions stand, and what the
 -- answers of several shards make, how often a batch failed and what waits for the backend. They serve the definitions that
 -- `OutputStall`, `is_looked_at`, `stands`, `held_by_all`, `tries_after` and `left_by` promise.
-use Rattle.std.specs.Prelude.{◌≡◌, [], ◌∷◌, Some, None, true, false, refl}
+use Rattle.std.specs.Prelude.{◌≡◌, [], ◌∷◌, codes, Some, None, true, false, refl}
 use Rattle.batch_post.specs.declared.outcome.AttemptOutcome.TheVariants.{Answered, NoAnswer}
 use Rattle.collector_board.specs.Backlog.{left_by, tries_after}
 use Rattle.collector_board.specs.Looks.{is_looked_at}
+use Rattle.batch_post.specs.declared.outcome.BatchFate.TheVariants.{Delivered, GivenUp}
+use Rattle.collector_board.specs.declared.write_news.WriteNews.TheVariants.{Nothing, Took, Fails}
+use Rattle.collector_board.specs.News.{delivered_of, news_of}
 use Rattle.collector_board.specs.Questions.{held_by_all, stands}
 use Rattle.collector_board.specs.Stalls.{stalled_seconds}
 use Rattle.decision_line.specs.declared.held.TraceHeld.TheVariants.{Waiting, Decided, Remembered, Unknown}
@@ -44,3 +47,12 @@ left : left_by 1000 (record { queued = 20; traces = 7; spans = 400 } ∷ record 
     ∷ left_by 30 (record { queued = 20; traces = 7; spans = 400 } ∷ record { queued = 3; traces = 8; spans = 50 } ∷ []) ∷ left_by 9 [] ∷ []
     ≡ 527 ∷ 0 ∷ 9 ∷ []
 left = refl
+
+-- of `ab` and a line feed all, two bytes and none were taken; the same where lines are sent, too; failures
+writes : news_of (Some 3) (codes "ab\n") false true ∷ news_of (Some 2) (codes "ab\n") false true ∷ news_of (Some 0) (codes "ab\n") false false
+    ∷ news_of (Some 3) (codes "ab\n") true true ∷ news_of None (codes "ab\n") true false ∷ news_of None (codes "ab\n") false true ∷ []
+    ≡ Took 3 1 ∷ Took 2 0 ∷ Took 0 0 ∷ Nothing ∷ Fails false ∷ Fails true ∷ []
+writes = refl
+
+batches : delivered_of 70 Delivered ∷ delivered_of 71 GivenUp ∷ [] ≡ Some 70 ∷ None ∷ []
+batches = refl

@@ -7,6 +7,7 @@ use crate::ledger_desk::LedgerDesk;
 use crate::record_queue::RecordQueue;
 use crate::tick_gate::TickGate;
 use crate::trace_questions::TraceQuestions;
+use crate::write_news::{OutputFailure, longer};
 use batch_post::AttemptOutcome;
 use drop_ledger::{Count, Report};
 use event_log::Level;
@@ -292,12 +293,10 @@ impl Board {
         self.incomplete.load(Ordering::Relaxed)
     }
 
-    /// Since this moment writes of the output fail, by the system's error of this number, or by 0 where they take nothing,
-    /// and are tried again.
-    pub fn output_fails(&self, moment: u64, code: u64) {
-        self.failing_code.store(code, Ordering::Relaxed);
-        // The moment 0 is told as the next one, since it says that nothing fails.
-        self.failing_since.store(moment.max(1), Ordering::Release);
+    /// Writes of the output fail so, and are tried again.
+    pub fn output_fails(&self, failure: OutputFailure) {
+        self.failing_code.store(failure.code, Ordering::Relaxed);
+        self.failing_since.store(failure.since, Ordering::Release);
     }
 
     /// The output takes writes again.
@@ -348,19 +347,15 @@ impl Board {
     pub fn longest_wait(&self) -> u64 {
         let mut longest: u64 = 0;
         for cells in &self.shards {
-            longest = longest.max(cells.waited.load(Ordering::Relaxed));
+            longest = longer(longest, cells.waited.load(Ordering::Relaxed));
         }
         longest
     }
 
-    /// The output took these bytes, which may end a line.
-    pub fn wrote(&self, bytes: &[u8]) {
-        self.output_bytes
-            .fetch_add(bytes.len() as u64, Ordering::Relaxed);
-        // However many writes a line took, its line feed is the end of the last.
-        if bytes.ends_with(b"\n") {
-            self.lines.fetch_add(1, Ordering::Relaxed);
-        }
+    /// The output took this number of bytes, and so many lines ended there.
+    pub fn wrote(&self, bytes: u64, lines: u64) {
+        self.output_bytes.fetch_add(bytes, Ordering::Relaxed);
+        self.lines.fetch_add(lines, Ordering::Relaxed);
     }
 
     /// How many lines the output took whole, and how many bytes.

@@ -1,6 +1,7 @@
 //! The collector, as its backend sees it.
 use crate::board::Board;
 use crate::stop_mark::StopMark;
+use crate::write_news::delivered_of;
 use batch_post::{AttemptOutcome, BatchFate};
 use http_lane::HasStopMark;
 use post_socket::Watch;
@@ -32,7 +33,7 @@ impl<'s> Watch for ExportWatch<'s> {
 
     fn settled(&self, bytes: u64, fate: BatchFate) {
         self.board.export().settled(fate);
-        if fate == BatchFate::Delivered {
+        if let Some(bytes) = delivered_of(bytes, fate) {
             self.board.delivered(bytes);
         }
     }

@@ -24,6 +24,7 @@ mod tick_gate;
 mod trace_questions;
 mod watched_destination;
 mod watching;
+mod write_news;
 mod write_watch;
 
 pub use board::Board;

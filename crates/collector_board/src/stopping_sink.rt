@@ -3,6 +3,7 @@ ghost use Rattle.std.specs.Prelude.{◌≡◌};
 
 use crate::board::Board;
 use crate::output_stall::OutputStall;
+use crate::write_news::{WriteNews, news_of};
 use http_lane::HasStopMark;
 use span_sink::{Sink, SinkFault};
 use std::time::Clock;
@@ -71,13 +72,12 @@ impl<'s, S: Sink, P: HasStopMark, R: Clock> Sink for StoppingSink<'s, S, P, R> {
         self.stall.begins(self.rt);
         let answer = self.sink.write(bytes);
         self.stall.ends();
-        // Lines that are sent, too, are counted once the backend took them.
-        match answer {
-            Ok(_) if self.are_sent => {}
-            Ok(n) => self.board.wrote(bytes.get(..n).unwrap_or(b"")),
-            Err(_) => {
+        match news_of(answer.ok(), bytes, self.are_sent, self.stops) {
+            WriteNews::Nothing => {}
+            WriteNews::Took { bytes, lines } => self.board.wrote(bytes, lines),
+            WriteNews::Fails { stops } => {
                 self.board.fails();
-                if self.stops {
+                if stops {
                     // At the very write that failed, as at a close: what holds of every closed run holds here (D-200).
                     self.stop.set();
                 }

@@ -1,6 +1,7 @@
 //! The collector, as its output sees it.
 use crate::board::Board;
 use crate::stop_mark::StopMark;
+use crate::write_news::failure_of;
 use http_lane::{Clock as Moments, HasStopMark};
 use output_file::OutputWatch;
 use std::io;
@@ -26,11 +27,8 @@ impl<'s, Time: Moments> OutputWatch for WriteWatch<'s, Time> {
     }
 
     fn failing(&self, error: &io::Error) {
-        let code = match error.raw_os_error() {
-            Some(code) => u64::try_from(code).unwrap_or(0),
-            None => 0,
-        };
-        self.board.output_fails(self.clock.now(), code);
+        let failure = failure_of(self.clock.now(), error.raw_os_error());
+        self.board.output_fails(failure);
     }
 
     fn back(&self) {

@@ -1,4 +1,6 @@
 //! Which settings of a configuration aren't those that count where it doesn't name them.
+ghost use Rattle.std.specs.Prelude.{◌≡◌, ◌↔◌, IsTrue};
+
 use config_faults::{DefaultValue, Setting, member, top_settings};
 use std::alloc::{AllocError, Global};
 use toml::{Table, Value};
@@ -33,10 +35,17 @@ fn changed_in(alloc: Global, table: &Table) -> Result<String, AllocError> {
     Ok(names)
 }
 
+/// Whether a number is this default: neither above nor below it.
+fn is_default_number(number: i64, default: i64) -> bool
+    ensures { IsTrue result ↔ (number ≡ default) }
+{
+    number == default
+}
+
 /// Whether a value is this default.
 fn is_default(value: &Value, default: DefaultValue) -> bool {
     match (value, default) {
-        (Value::Integer(number), DefaultValue::Number(other)) => *number == other,
+        (Value::Integer(number), DefaultValue::Number(other)) => is_default_number(*number, other),
         (Value::String(text), DefaultValue::Choice(key)) => text.as_str() == key.row().1,
         (Value::String(text), DefaultValue::Text(key)) => text.as_str() == key.row().1,
         (Value::Boolean(is_on), DefaultValue::Off) => !*is_on,

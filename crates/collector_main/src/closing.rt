@@ -1,4 +1,6 @@
 //! Asks a running collector to close.
+ghost use Rattle.std.specs.Prelude.{◌≡◌};
+ghost use Rattle.std.specs.Duration.{as_nanos};
 ghost use Rattle.collector_main.specs.Closing.{FileCloses};
 ghost use Rattle.collector_commands.specs.Configuration.{file_of};
 
@@ -19,8 +21,12 @@ const CLOSE: &[u8] =
 /// The beginning of an answer to it, where the collector closes (RFC 9112, section 4).
 const CLOSES: &[u8] = b"HTTP/1.1 200";
 
-/// The longest wait for an answer, in seconds.
-const PATIENCE: u64 = 60;
+/// The longest wait for an answer: a minute.
+fn patience() -> Duration
+    ensures { as_nanos result ≡ 60_000_000_000 }
+{
+    Duration::from_secs(60)
+}
 
 /// Asks the collector that runs by the configuration in what was read from its file to close.
 pub fn close_by<T: Net<Listener = TcpListener, Stream = TcpStream>>(
@@ -51,7 +57,7 @@ fn is_closing<T: Net<Listener = TcpListener, Stream = TcpStream>>(
     if address.is_empty() {
         address = config.listen.as_str();
     }
-    let patience = Some(Duration::from_secs(PATIENCE));
+    let limit = Some(patience());
     // Where it listens at every address of the machine, this is one of them.
     let own = match port_alone(address) {
         Some(port) => format!(in alloc; "127.0.0.1:{port}")?,
@@ -60,12 +66,12 @@ fn is_closing<T: Net<Listener = TcpListener, Stream = TcpStream>>(
     match socket_path(address) {
         Some(path) => {
             let stream = UnixStream::connect(rt, path)?;
-            stream.set_read_timeout(patience)?;
+            stream.set_read_timeout(limit)?;
             answers_close(stream)
         }
         None => {
             let stream = TcpStream::connect(rt, own.as_str())?;
-            stream.set_read_timeout(patience)?;
+            stream.set_read_timeout(limit)?;
             answers_close(stream)
         }
     }

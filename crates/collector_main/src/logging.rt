@@ -1,5 +1,6 @@
 //! What the program says of a run on standard error.
 use crate::changed_settings::changed_settings;
+use crate::report_fields::fields_of;
 use collector_board::{DecisionQueue, RecordQueue};
 use collector_commands::{Outcome, VERSION};
 use collector_serve::{Charge, EventWriter};
@@ -195,32 +196,6 @@ fn say_report<W: Write + Drop, R: Clock>(
         Some(closer) => closer.name(),
         None => "nobody",
     };
-    let fields = [
-        text("by", by),
-        number("received", report.number(Count::Received)),
-        number("handed", report.number(Count::Handed)),
-        number(
-            "invalid_id",
-            report.number(Count::Dropped(Reason::InvalidId)),
-        ),
-        number(
-            "queue_full",
-            report.number(Count::Dropped(Reason::QueueFull)),
-        ),
-        number("no_memory", report.number(Count::Dropped(Reason::NoMemory))),
-        number("evicted", report.number(Count::Dropped(Reason::Evicted))),
-        number(
-            "not_sampled",
-            report.number(Count::Dropped(Reason::NotSampled)),
-        ),
-        number(
-            "late_not_sampled",
-            report.number(Count::Dropped(Reason::LateNotSampled)),
-        ),
-        number(
-            "exporter_down",
-            report.number(Count::Dropped(Reason::ExporterDown)),
-        ),
-    ];
+    let fields = fields_of(by, report);
     events.say(rt, alloc, Level::Info, "closed", &fields);
 }

@@ -14,6 +14,7 @@ mod logging;
 mod looking;
 mod opening;
 mod program;
+mod report_fields;
 mod running;
 mod sending;
 mod writing_lines;

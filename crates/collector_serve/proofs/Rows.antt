@@ -1,10 +1,13 @@
 -- Worked rows, computed: a process that may take 800 bytes, and requests to a backend.
 -- They serve the definitions that `MemoryRule`, `request_fields` and `with_export_room` promise.
-use Rattle.std.specs.Prelude.{◌≡◌, ℕ, true, false, [], ◌∷◌, ◌++◌, map, codes, refl}
+use Rattle.std.specs.Prelude.{◌≡◌, ℕ, true, false, [], ◌∷◌, ◌++◌, map, codes, Some, None, refl}
 use Rattle.collector_serve.specs.Moments.{moment_after}
 use Rattle.otlp_encoding.specs.declared.encoding.Encoding.TheVariants.{Json, Protobuf}
 use Rattle.collector_serve.specs.Requests.{room_of, request_fields}
-use Rattle.collector_serve.specs.Memory.{MemoryState, is_short, is_shorter, memory_after, pause_before}
+use Rattle.collector_serve.specs.Memory.{MemoryState, is_short, is_shorter, limit_of, memory_after, pause_before}
+use Rattle.collector_serve.specs.LateLooks.{late_look}
+use Rattle.collector_serve.specs.LastRows.{last_row}
+use Rattle.collector_serve.specs.declared.late_looks.Came.TheVariants.{Nothing, Bytes, End}
 
 abbrev state : (most release : ℕ) → MemoryState
 state most release = record { limit = 800; most = most; release = release }
@@ -70,3 +73,16 @@ moments_after = refl
 
 latest_moment : moment_after 18446744073709551614 5000000 ≡ 18446744073709551615
 latest_moment = refl
+
+-- a client who ends his side at once; who sends; who says nothing, before the tenth look and at it; who was answered
+answered : (late_look 1 End false).answers ∷ (late_look 1 Bytes false).answers ∷ (late_look 9 Nothing false).answers ∷ (late_look 10 Nothing false).answers ∷ (late_look 11 Bytes true).answers ∷ [] ≡ true ∷ true ∷ false ∷ true ∷ false ∷ []
+answered = refl
+
+looked_at_again : (late_look 1 End false).goes_on ∷ (late_look 49 Bytes true).goes_on ∷ (late_look 50 Nothing true).goes_on ∷ [] ≡ false ∷ true ∷ false ∷ []
+looked_at_again = refl
+
+last_rows : last_row 0 ∷ last_row 1 ∷ last_row 61 ∷ [] ≡ None ∷ Some 0 ∷ Some 60 ∷ []
+last_rows = refl
+
+limits : limit_of 0 ∷ limit_of 200 ∷ limit_of 17592186044416 ∷ [] ≡ 18446744073709551615 ∷ 209715200 ∷ 18446744073709551615 ∷ []
+limits = refl

@@ -1,5 +1,5 @@
 -- When requests are refused since the process takes too much memory.
-use Rattle.std.specs.Prelude.{ℕ, ◌+◌, ◌-◌, ◌/◌, Bool, ◌&&◌, if◌then◌else◌, nat_le, nat_lt, min, max}
+use Rattle.std.specs.Prelude.{ℕ, ◌+◌, ◌-◌, ◌*◌, ◌/◌, ◌^◌, ◌==◌, Bool, ◌&&◌, if◌then◌else◌, nat_le, nat_lt, min, max}
 
 -- what is known of the process's memory: the most that it took since it went beyond its limit, and how many spans may
 -- wait again before requests are taken
@@ -34,3 +34,7 @@ pause_before limit taken = min (max ((limit - taken) / 1048576 / 2) 2) 100
 -- then requests are refused
 abbrev pub is_short : MemoryState → (taken waiting : ℕ) → Bool
 is_short state taken waiting = nat_lt state.limit taken && nat_lt state.release waiting
+
+-- the bytes that a process may take whose limit is so many mebibytes, where 0 is none
+abbrev pub limit_of : (mebibytes : ℕ) → ℕ
+limit_of mebibytes = if mebibytes == 0 then 2 ^ 64 - 1 else min (mebibytes * 1048576) (2 ^ 64 - 1)

@@ -1,4 +1,5 @@
 //! An address at which those in charge ask, and the connections there.
+ghost use Rattle.std.specs.Prelude.{◌≡◌, ◌∷◌, [], map};
 ghost use Rattle.std.specs.Io.{ReadsAtMost, WritesAtMost};
 
 use crate::serving::listen;
@@ -151,4 +152,11 @@ pub fn end_admin<R: Files>(rt: &R, address: &str) {
     if let Some(path) = socket_path(address) {
         let _ = fs::remove_file(rt, path);
     }
+}
+
+/// The addresses at which a collector may have a socket's file: that of those in charge, and that of numbers alone.
+pub fn both_addresses<'a>(admin: &'a str, metrics: &'a str) -> [&'a str; 2]
+    ensures { map (λ a. a.now) result ≡ admin.now ∷ metrics.now ∷ [] }
+{
+    [admin, metrics]
 }

@@ -1,5 +1,6 @@
 //! The threads that answer those in charge of a collector, and those who read its numbers.
-ghost use Rattle.std.specs.Prelude.{◌≡◌, nat_lt};
+ghost use Rattle.std.specs.Prelude.{◌≡◌, ◌++◌, nat_lt, true, false, IsSome, None, option_to_list};
+ghost use Rattle.std.specs.VecDeque.{deque_len};
 
 use crate::admin_door::{Door, Peer};
 use crate::charge::Charge;
@@ -109,11 +110,8 @@ impl Reception {
     /// Forgets the connections that are over. Where there are still too many for one more, the oldest is ended.
     fn makes_room<R: Threads>(&mut self, rt: &R) {
         self.visits.retain(|visiting| !visiting.visit.is_over());
-        if has_room(self.visits.len()) {
-            return;
-        }
         // So clients that say nothing keep nobody waiting (D-190).
-        if let Some(oldest) = self.visits.pop_front() {
+        if let Some(oldest) = oldest_for_one_more(&mut self.visits) {
             oldest.visit.end();
             oldest.thread.join(rt);
         }
@@ -125,4 +123,16 @@ fn has_room(count: usize) -> bool
     ensures { result ≡ nat_lt count AT_ONCE }
 {
     count < AT_ONCE
+}
+
+/// The oldest of these, the oldest first, taken from them where there is no room for one more.
+fn oldest_for_one_more<T>(visits: &mut VecDeque<T>) -> Option<T>
+    ensures oldest { visits.old.items ≡ option_to_list result ++ visits.new.items }
+    ensures some { nat_lt (deque_len visits.old) AT_ONCE ≡ false → IsSome result }
+    ensures none { nat_lt (deque_len visits.old) AT_ONCE ≡ true → result ≡ None }
+{
+    if has_room(visits.len()) {
+        return None;
+    }
+    visits.pop_front()
 }

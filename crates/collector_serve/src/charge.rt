@@ -2,7 +2,7 @@
 ghost use Rattle.std.specs.Prelude.{◌≡◌, ◌++◌, IfSome, OnOk, string_bytes};
 ghost use Rattle.collector_serve.specs.Told.{ledger_part};
 
-use crate::admin_door::end_admin;
+use crate::admin_door::{both_addresses, end_admin};
 use crate::history::History;
 use crate::lines_of::LinesOf;
 use crate::wall_clock::WallClock;
@@ -96,8 +96,9 @@ impl Charge {
 
     /// Removes the sockets' files of its addresses, where these are some.
     pub fn removes_sockets<R: Files>(&self, rt: &R) {
-        end_admin(rt, self.admin.as_str());
-        end_admin(rt, self.metrics_address.as_str());
+        for address in both_addresses(self.admin.as_str(), self.metrics_address.as_str()) {
+            end_admin(rt, address);
+        }
     }
 
     /// What of the spans that wait does so for the backend, where there is one.

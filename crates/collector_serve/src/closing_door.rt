@@ -1,5 +1,6 @@
 //! The thread that answers clients who connect as the collector closes.
 use crate::charge::Charge;
+use crate::late_looks::{Came, MOST_LOOKS, late_look};
 use collector_board::Closer;
 use http_answer::stopping_text;
 use http_lane::HasStopMark;
@@ -18,12 +19,6 @@ const PAUSE: u64 = 100;
 /// The time between two looks at those who connected once it does, in milliseconds.
 const CLOSING_PAUSE: u64 = 20;
 
-/// The look at which a client from whom nothing came is answered: after a fifth of a second.
-const ANSWER_LOOKS: u32 = 10;
-
-/// The last look at a client: after a second.
-const MOST_LOOKS: u32 = 50;
-
 /// The most pieces of 4,096 bytes that are read from a client at a look, and the most clients that are taken at one.
 const MOST_AT_ONCE: u32 = 256;
 
@@ -35,21 +30,14 @@ struct LateClient {
     is_answered: bool,
 }
 
-/// What came from a client at a look.
-#[derive(Clone, Copy, PartialEq, Eq)]
-enum Came {
-    Nothing,
-    Bytes,
-    End,
-}
-
 impl LateClient {
     /// Reads what is there, answers once something came or enough looks were made, and says whether the client is
     /// looked at again: what it still sends is read, so that the answer isn't taken back.
     fn look(&mut self, text: &[u8], traffic: &Traffic) -> bool {
         self.looks = self.looks.saturating_add(1);
         let came = self.read_all(traffic);
-        if !self.is_answered && (came != Came::Nothing || self.looks >= ANSWER_LOOKS) {
+        let look = late_look(self.looks, came, self.is_answered);
+        if look.answers {
             self.is_answered = true;
             if self.stream.write_all(text).is_err() {
                 return false;
@@ -60,7 +48,7 @@ impl LateClient {
                 return false;
             }
         }
-        came != Came::End && self.looks < MOST_LOOKS
+        look.goes_on
     }
 
     /// Reads what is there.

@@ -1,5 +1,6 @@
 //! The counts of the last minutes, for those who come to look.
 ghost use Rattle.std.specs.Prelude.{◌≡◌, ◌<◌, ◌+◌, ◌*◌, ◌%◌};
+ghost use Rattle.collector_serve.specs.LastRows.{last_row};
 
 use drop_ledger::{Count, Report};
 use status_json::{HISTORY_ROWS, HistoryRow, is_row_due};
@@ -61,7 +62,7 @@ impl History {
 
     /// The moment of the last of so many rows.
     fn last(&self, added: u64) -> Option<u64> {
-        Some(self.got(added.checked_sub(1)?, 0))
+        Some(self.got(last_row(added)?, 0))
     }
 
     /// The row of this number.
@@ -93,6 +94,13 @@ impl History {
             None => 0,
         }
     }
+}
+
+/// The number of the last of so many rows, counted from 0 on, if there is one.
+fn last_row(added: u64) -> Option<u64>
+    ensures { result ≡ last_row added }
+{
+    added.checked_sub(1)
 }
 
 /// The cell at a place of the row of this number: of the rows that are kept each has cells of its own.

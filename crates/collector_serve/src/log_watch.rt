@@ -2,6 +2,7 @@
 use crate::charge::Charge;
 use crate::event_writer::EventWriter;
 use crate::ledger_events::LedgerKnown;
+use crate::said_once::SaidOnce;
 use crate::steady_clock::SteadyClock;
 use crate::wall_clock::WallClock;
 use collector_board::{Closer, DecisionQueue, RecordQueue};
@@ -44,8 +45,8 @@ struct Known {
     away_since: Option<u64>,
     /// Since when the output fails, and when that was seen.
     failing: Option<(u64, u64)>,
-    is_closing: bool,
-    is_down: bool,
+    closing: SaidOnce,
+    down: SaidOnce,
 }
 
 impl Known {
@@ -58,8 +59,8 @@ impl Known {
             unanswered: 0,
             away_since: None,
             failing: None,
-            is_closing: false,
-            is_down: false,
+            closing: SaidOnce::new(),
+            down: SaidOnce::new(),
         }
     }
 }
@@ -337,8 +338,7 @@ fn look_at_end<W: Write + Drop, R: Clock>(
     charge: &Charge,
     known: &mut Known,
 ) {
-    if charge.board.is_down() && !known.is_down {
-        known.is_down = true;
+    if known.down.says(charge.board.is_down()) {
         say(
             rt,
             alloc,
@@ -349,11 +349,10 @@ fn look_at_end<W: Write + Drop, R: Clock>(
             &[],
         );
     }
-    if known.is_closing {
+    let Some(closer) = charge.stop.closer() else {
         return;
-    }
-    if let Some(closer) = charge.stop.closer() {
-        known.is_closing = true;
+    };
+    if known.closing.says(true) {
         say_closing(rt, alloc, events, charge, closer);
     }
 }

@@ -1,7 +1,7 @@
 //! The thread that looks at what memory the process takes, and refuses requests while it is too much, and spans while
 //! it is more still.
 ghost use Rattle.std.specs.Prelude.{◌≡◌};
-ghost use Rattle.collector_serve.specs.Memory.{pause_before};
+ghost use Rattle.collector_serve.specs.Memory.{limit_of, pause_before};
 
 use crate::charge::Charge;
 use crate::memory_rule::MemoryRule;
@@ -35,10 +35,7 @@ pub fn start_memory_watch<
     R: Threads + Wait + Clock + Copy + Send + 'static,
 >(rt: &R, limit_mib: u64, account: F, charge: Arc<Charge, Global>) -> io::Result<()> {
     let mut account = account;
-    let limit = match limit_mib {
-        0 => u64::MAX,
-        mebibytes => mebibytes.saturating_mul(MEBIBYTE),
-    };
+    let limit = limit_of(limit_mib);
     charge.board.takes(bytes_taken(&mut account)?);
     let own = *rt;
     let _runs_on = thread::spawn(rt, move || watch(&own, limit, account, &charge))?;
@@ -61,6 +58,16 @@ fn watch<F: Read + Seek + Drop, R: Wait + Clock>(rt: &R, limit: u64, account: F,
         }
         thread::sleep(rt, Duration::from_millis(pause));
     }
+}
+
+/// The bytes that a process may take whose limit is so many mebibytes, where 0 is none.
+fn limit_of(mebibytes: u64) -> u64
+    ensures { result ≡ limit_of mebibytes }
+{
+    if mebibytes == 0 {
+        return u64::MAX;
+    }
+    mebibytes.saturating_mul(MEBIBYTE)
 }
 
 /// The time until the next look: the shorter the less may still be taken. A process doesn't grow by more than
