@@ -49,9 +49,9 @@ last : looked Closing false false 10 9 (Some 50) ∷ looked Closing true true 10
 last = refl
 
 -- in the third round, where the commit of the first has failed: answers that wait for none, and those of each round
-rounds : map (sending (record { now = 3; lost = 1; waits = true })) (0 ∷ 1 ∷ 2 ∷ 3 ∷ []) ≡ Now ∷ Never ∷ Now ∷ Later ∷ []
+rounds : map (sending (record { number = 3; lost = 1; waits = true })) (0 ∷ 1 ∷ 2 ∷ 3 ∷ []) ≡ Now ∷ Never ∷ Now ∷ Later ∷ []
 rounds = refl
 
 -- the first round is committed; that fails, and then the second one is
-commits : after_commit true starts ∷ after_commit true (after_commit false starts) ∷ [] ≡ record { now = 2; lost = 0; waits = false } ∷ record { now = 3; lost = 1; waits = false } ∷ []
+commits : after_commit true starts ∷ after_commit true (after_commit false starts) ∷ [] ≡ record { number = 2; lost = 0; waits = false } ∷ record { number = 3; lost = 1; waits = false } ∷ []
 commits = refl

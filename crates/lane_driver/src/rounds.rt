@@ -1,6 +1,6 @@
 //! The rounds of a lane, and which answers may be sent: where what they promise has to outlive a crash, those of rounds that
 //! were committed.
-ghost use Rattle.std.specs.Prelude.{◌≡◌};
+ghost use Rattle.std.specs.Prelude.{◌≡◌, true};
 ghost use Rattle.lane_driver.specs.Rounds.{sending, after_commit, starts};
 
 use std::sync::Wait;
@@ -52,7 +52,7 @@ pub enum Sending {
 #[derive(Clone, Copy)]
 pub struct Rounds {
     /// The number of the one under way, from 1 on.
-    pub now: u64,
+    pub number: u64,
     /// The last one whose commit failed, or 0.
     pub lost: u64,
     /// Answers of the one under way wait for its commit.
@@ -65,7 +65,7 @@ impl Rounds {
         ensures { result ≡ starts }
     {
         Rounds {
-            now: 1,
+            number: 1,
             lost: 0,
             waits: false,
         }
@@ -79,7 +79,7 @@ impl Rounds {
             Sending::Now
         } else if round <= self.lost {
             Sending::Never
-        } else if round == self.now {
+        } else if round == self.number {
             Sending::Later
         } else {
             Sending::Now
@@ -88,11 +88,11 @@ impl Rounds {
 
     /// Answers of the round under way wait: its number.
     pub fn hold(&mut self) -> u64
-        ensures round { result ≡ self.old.now }
+        ensures round { result ≡ self.old.number }
         ensures waits { self.new ≡ record self.old { waits = true } }
     {
         self.waits = true;
-        self.now
+        self.number
     }
 
     /// The round under way was committed, or that failed, and the next one begins.
@@ -100,9 +100,9 @@ impl Rounds {
         ensures { self.new ≡ after_commit is_committed self.old }
     {
         if !is_committed {
-            self.lost = self.now;
+            self.lost = self.number;
         }
         self.waits = false;
-        self.now = self.now.saturating_add(1);
+        self.number = self.number.saturating_add(1);
     }
 }
