@@ -90,11 +90,7 @@ impl TickGate {
             if taken >= items || left == 0 {
                 return;
             }
-            left = if taken == seen {
-                left - 1
-            } else {
-                LOOKS
-            };
+            left = if taken == seen { left - 1 } else { LOOKS };
             seen = taken;
             thread::sleep(rt, Duration::from_micros(NAP));
         }
