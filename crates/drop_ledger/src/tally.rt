@@ -1,9 +1,9 @@
 //! A counter that stops where a count would pass its greatest number.
-ghost use Rattle.std.specs.Prelude.{◌≡◌, ◌⊎◌, ◌+◌, ◌^◌, ◌≤◌, true, false, slice_index};
-ghost use Rattle.drop_ledger.specs.Places.{TallyState, place_of, with_added};
+ghost use Rattle.std.specs.Prelude.{◌≡◌, ◌⊎◌, ◌+◌, ◌^◌, ◌<◌, ◌≤◌, true, false, slice_index};
+ghost use Rattle.drop_ledger.specs.Places.{TallyState, place_of, with_added, after_adding, AllFit, StopsAtFull};
 
 use crate::count::Count;
-use crate::counter::Counter;
+use crate::counter::{Additions, Counter};
 use std::marker::Model;
 
 /// What one part of a run has counted. Once a count would pass its greatest number nothing more is counted.
@@ -44,11 +44,28 @@ impl<K: Counter> Tally<K> {
         ensures counted { self.new.is_full ≡ false → (self.old.is_full ≡ false) × (self.new.numbers ≡ with_added count n self.old.numbers) }
         ensures full { self.new.is_full ≡ true → self.new.numbers ≡ self.old.numbers }
         ensures cause { self.new.is_full ≡ true → (self.old.is_full ≡ true) ⊎ (2 ^ 64 ≤ slice_index self.old.numbers (place_of count) + n) }
+        ensures fits { self.new.is_full ≡ false → slice_index self.old.numbers (place_of count) + n < 2 ^ 64 }
     {
         if self.is_full {
             return;
         }
         if self.counter.add(count, n).is_err() {
+            self.is_full = true;
+        }
+    }
+
+    /// Makes these additions up to the first by which a count would have passed its greatest number, unless one would
+    /// have before.
+    pub fn count_all<A: Additions>(&mut self, what: &A)
+        ensures counted { self.new.is_full ≡ false → (self.old.is_full ≡ false) × (self.new.numbers ≡ after_adding (A.additions what.now) self.old.numbers) }
+        ensures fits { self.new.is_full ≡ false → AllFit (A.additions what.now) self.old.numbers }
+        ensures full { self.old.is_full ≡ true → self.new ≡ self.old }
+        ensures stops { self.new.is_full ≡ true → (self.old.is_full ≡ true) ⊎ StopsAtFull (A.additions what.now) self.old.numbers self.new.numbers }
+    {
+        if self.is_full {
+            return;
+        }
+        if !what.add_to(&mut self.counter) {
             self.is_full = true;
         }
     }

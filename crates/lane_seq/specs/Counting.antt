@@ -1,8 +1,8 @@
 -- What a reply adds to the counts.
-use Rattle.std.specs.Prelude.{◌≡◌, ◌⊎◌, ℕ, ◌+◌, ◌^◌, ◌<◌, ◌≤◌, Bool, true, false, List, [], ◌∷◌, slice_index}
+use Rattle.std.specs.Prelude.{◌≡◌, ℕ, Bool, true, false, List, [], ◌∷◌}
 use Rattle.span_ids.specs.declared.outcome.Reason.TheVariants.{InvalidId, QueueFull}
 use Rattle.drop_ledger.specs.declared.count.Count.TheVariants.{Received, Dropped}
-use Rattle.drop_ledger.specs.Places.{place_of, with_added, Addition, after_adding, added_to}
+use Rattle.drop_ledger.specs.Places.{Addition, after_adding, added_to, StopsAtFull, AllFit}
 use Rattle.lane_seq.specs.declared.reply.Reply.{Reply}
 use Rattle.lane_seq.specs.declared.reply.Reply.TheVariants.{Done, Partial, BadData, Busy}
 use Rattle.lane_seq.specs.Replies.{full_in}
@@ -15,20 +15,10 @@ additions_of (Partial spans invalid full) =
 additions_of (BadData cause) = []
 additions_of Busy = []
 
--- these additions were made up to the first by which a number would have passed 2^64-1
-abbrev pub StopsAtFull : List Addition → List ℕ → List ℕ → Type 0
-StopsAtFull [] old new = ⊥
-StopsAtFull (a ∷ rest) old new = ((2 ^ 64 ≤ slice_index old (place_of a.count) + a.spans) × (new ≡ old)) ⊎ StopsAtFull rest (with_added a.count a.spans old) new
-
 -- the counts took all of it, or stopped where a number would have passed 2^64-1
 abbrev pub Counts : Reply → Bool → List ℕ → List ℕ → Type 0
 Counts reply true old new = new ≡ after_adding (additions_of reply) old
 Counts reply false old new = StopsAtFull (additions_of reply) old new
-
--- no addition of these made a number pass 2^64-1
-abbrev pub AllFit : List Addition → List ℕ → Type 0
-AllFit [] old = Unit {0}
-AllFit (a ∷ rest) old = (slice_index old (place_of a.count) + a.spans < 2 ^ 64) × AllFit rest (with_added a.count a.spans old)
 
 -- where the counts took all of it no number passed 2^64-1
 abbrev pub FitsIn : Reply → Bool → List ℕ → Type 0

@@ -4,7 +4,7 @@ ghost use Rattle.lane_seq.specs.Counting.{Counts, FitsIn};
 ghost use Rattle.lane_seq.specs.Replies.{is_received};
 
 use crate::reply::Reply;
-use drop_ledger::{Count, Counter};
+use drop_ledger::{Additions, Count, Counter};
 use span_ids::Reason;
 
 /// Counts the spans of a request, and those of them that go to no shard. `false`: a count would pass 2^64-1, and nothing
@@ -34,5 +34,15 @@ pub fn count_reply<C: Counter>(counts: &mut C, reply: &Reply) -> bool
             }
         }
         Reply::BadData(_) | Reply::Busy => true,
+    }
+}
+
+impl Additions for Reply {
+    ghost use Rattle.lane_seq.specs.Counting.{additions_of};
+
+    ghost additions = { additions_of };
+
+    fn add_to<C: Counter>(&self, counts: &mut C) -> bool {
+        count_reply(counts, self)
     }
 }

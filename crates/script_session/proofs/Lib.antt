@@ -1,6 +1,7 @@
 pub mod Adds
 pub mod Replies
 pub mod Replied
+pub mod Tallied
 pub mod Numbers
 pub mod Pulls
 pub mod Nodes

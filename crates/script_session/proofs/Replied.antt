@@ -5,13 +5,13 @@ use Rattle.std.specs.Prelude.{slice_index, slice_set, if◌then◌else◌}
 use Rattle.std.proofs.lemmas.Grind.{common_steps}
 use Rattle.std.proofs.lemmas.List.{get_or-set_other}
 use Rattle.span_ids.specs.declared.outcome.Reason.TheVariants.{InvalidId, QueueFull}
-use Rattle.drop_ledger.specs.Places.{place_of, with_added}
+use Rattle.drop_ledger.specs.Places.{place_of, with_added, StopsAtFull}
 use Rattle.drop_ledger.specs.declared.count.Count.{Count}
 use Rattle.drop_ledger.specs.declared.count.Count.TheVariants.{Received, Dropped}
 use Rattle.drop_ledger.proofs.EachCount.{each_count}
 use Rattle.lane_seq.specs.declared.reply.Reply.{Reply}
 use Rattle.lane_seq.specs.declared.reply.Reply.TheVariants.{Done, Partial, BadData, Busy}
-use Rattle.lane_seq.specs.Counting.{Counts, FitsIn, StopsAtFull, additions_of}
+use Rattle.lane_seq.specs.Counting.{Counts, FitsIn, additions_of}
 use Rattle.script_session.specs.Adding.{Adds, at_count}
 use Rattle.script_session.specs.Staying.{Adds-none}
 use Rattle.script_session.specs.Submitting.{received_by}
@@ -32,11 +32,11 @@ kept-length numbers i n = grind (arith, common_steps)
 within-nine : (count : Count) → place_of count < 9
 within-nine = each_count (λ count. place_of count < 9) (omega arith) (omega arith) (omega arith) (omega arith) (omega arith) (omega arith) (omega arith) (omega arith) (omega arith)
 
-kept-nine : (what : Count) (n : ℕ) (numbers : List ℕ) → length numbers ≡ 9 → length (with_added what n numbers) ≡ 9
+pub kept-nine : (what : Count) (n : ℕ) (numbers : List ℕ) → length numbers ≡ 9 → length (with_added what n numbers) ≡ 9
 kept-nine what n numbers nine = kept-length numbers (place_of what) (slice_index numbers (place_of what) + n) ∙ nine
 
 -- so many are added at the place of this count
-abbrev AreAt : Count → ℕ → Type 0
+abbrev pub AreAt : Count → ℕ → Type 0
 AreAt what n = (k : Count) → at_count what n k ≡ (if place_of what == place_of k then n else 0)
 
 at-received : (n : ℕ) → AreAt Received n
@@ -48,7 +48,7 @@ at-invalid n = each_count (λ k. at_count (Dropped InvalidId) n k ≡ (if place_
 at-full : (n : ℕ) → AreAt (Dropped QueueFull) n
 at-full n = each_count (λ k. at_count (Dropped QueueFull) n k ≡ (if place_of (Dropped QueueFull) == place_of k then n else 0)) refl refl refl refl refl refl refl refl refl
 
-adds-one : (what : Count) (n : ℕ) (numbers : List ℕ) → AreAt what n → length numbers ≡ 9 → slice_index numbers (place_of what) + n < 2 ^ 64 → Adds (Some numbers) (at_count what n) (Some (with_added what n numbers))
+pub adds-one : (what : Count) (n : ℕ) (numbers : List ℕ) → AreAt what n → length numbers ≡ 9 → slice_index numbers (place_of what) + n < 2 ^ 64 → Adds (Some numbers) (at_count what n) (Some (with_added what n numbers))
 adds-one what n numbers at nine fits = (
   kept-length numbers (place_of what) (slice_index numbers (place_of what) + n),
   λ k.

@@ -3,11 +3,15 @@ use Rattle.std.specs.Prelude.{◌≡◌, ℕ, ◌+◌, ◌^◌, ◌<◌, ◌≤�
 use Rattle.std.specs.List.{sum_by}
 use Rattle.span_ids.specs.declared.outcome.Reason.{Reason}
 use Rattle.journal_theory.specs.Fate.{is_same_reason}
-use Rattle.drop_ledger.specs.Places.{place_of}
+use Rattle.drop_ledger.specs.Places.{place_of, TallyState}
 use Rattle.drop_ledger.specs.declared.count.Count.{Count}
 use Rattle.drop_ledger.specs.declared.count.Count.TheVariants.{Received, Handed, Dropped}
 use Rattle.script_run.specs.Sending.{SentBatch}
 use Rattle.script_run.specs.Counts.{counted_for}
+
+-- the report of what was counted: none once a number would have passed 2^64-1
+abbrev pub report_of : TallyState → Option (List ℕ)
+report_of counts = if counts.is_full then None else Some counts.numbers
 
 -- these numbers of spans were added to the counts, and what was below 2^64 is so still; from the first number on that
 -- passed 2^64-1 there is no report

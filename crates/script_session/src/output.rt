@@ -2,12 +2,12 @@
 ghost use Rattle.std.specs.Prelude.{◌≡◌, ◌<◌, [], ◌∷◌, Some, length, replicate};
 ghost use Rattle.span_exporter.specs.Exports.{ExporterState, Sends, WritesLine};
 ghost use Rattle.script_run.specs.Counts.{counted_for};
-ghost use Rattle.script_session.specs.Adding.{Adds, at_count};
+ghost use Rattle.script_session.specs.Adding.{Adds, at_count, report_of};
 ghost use Rattle.script_session.specs.Pulling.{PullsAll, GoesOn};
 ghost use Rattle.script_session.specs.Submitting.{received_by};
 
-use drop_ledger::{Count, Report};
-use lane_seq::{Reply, count_reply};
+use drop_ledger::{Count, Report, Tally};
+use lane_seq::Reply;
 use otlp_types::Arrival;
 use released_spans::Shipment;
 use shard_core::Desk;
@@ -16,28 +16,29 @@ use span_ids::Reason;
 use span_sink::{LineSink, Sink};
 use std::marker::Model;
 
-/// The exporter, whose open batch has room, and the counts, or `None` once a count would have passed 2^64-1. Contracts
-/// see both.
+/// The exporter, whose open batch has room, and the counts. Contracts see the exporter, and the report of the counts:
+/// none once a count would have passed 2^64-1.
 #[derive(Drop)]
 pub struct Output<S: Sink> {
     exporter: Exporter<LineSink<S>>,
-    report: Option<Report>,
+    counts: Tally<Report>,
 }
 
 impl<S: Sink> Model for Output<S> {
     ghost use Rattle.std.specs.Prelude.{◌≡◌, ◌<◌, [], length};
     ghost use Rattle.std.specs.Coded.{codes};
     ghost use Rattle.otlp_types.specs.contracts.value.AnyValue as any_value;
+    ghost use Rattle.script_session.specs.Adding.{report_of};
     ghost use Rattle.script_session.specs.Pulling.{Export};
 
     ghost Value = { Export };
 
     ghost coded = { Prim.hlevel (codes, any_value.the_row.coded) };
 
-    ghost view = { λ o. (o.exporter, o.report) };
+    ghost view = { λ o. (o.exporter, report_of o.counts) };
 
     // A replay records no policies in its lines.
-    ghost invariant = { λ o. (length o.exporter.batch < o.exporter.size) × (o.exporter.names ≡ []) };
+    ghost invariant = { λ o. (length o.exporter.batch < o.exporter.size) × (o.exporter.names ≡ []) × (length o.counts.numbers ≡ 9) };
 }
 
 impl<S: Sink> Output<S> {
@@ -49,7 +50,7 @@ impl<S: Sink> Output<S> {
     {
         Output {
             exporter,
-            report: Some(Report::new()),
+            counts: Tally::new(Report::new()),
         }
     }
 
@@ -59,9 +60,9 @@ impl<S: Sink> Output<S> {
         ensures failures { S.failures result.0 ≡ self.0.sink.failures }
         ensures report { result.1 ≡ self.1 }
     {
-        let Output { exporter, report } = self;
+        let Output { exporter, counts } = self;
         let lines = exporter.end();
-        (lines.end(), report)
+        (lines.end(), report_of(counts))
     }
 
     /// Whether a write failed.
@@ -76,7 +77,7 @@ impl<S: Sink> Output<S> {
         ensures counted { Adds self.old.1 (at_count what spans) self.new.1 }
         ensures same { self.new.0 ≡ self.old.0 }
     {
-        count(&mut self.report, what, spans);
+        self.counts.count(what, spans);
     }
 
     /// Counts the spans of a request, and those of them that go to no shard.
@@ -84,7 +85,7 @@ impl<S: Sink> Output<S> {
         ensures counted { Adds self.old.1 (received_by reply.now) self.new.1 }
         ensures same { self.new.0 ≡ self.old.0 }
     {
-        count_replied(&mut self.report, reply);
+        self.counts.count_all(reply);
     }
 
     /// Hands a line to the sink that is no batch.
@@ -106,7 +107,7 @@ impl<S: Sink> Output<S> {
             × Adds self.old.1 (λ count. counted_for count flushed) self.new.1 }
         ensures goes_on { GoesOn self.old self.new }
     {
-        send(&mut self.exporter, &mut self.report);
+        send(&mut self.exporter, &mut self.counts);
     }
 
     /// Puts a span into the batch, and sends the batch when that fills it.
@@ -115,7 +116,7 @@ impl<S: Sink> Output<S> {
         ensures goes_on { GoesOn self.old self.new }
     {
         if let Pulled::AddedFull = self.exporter.pull(Shipment::Span(arrival, None)) {
-            send(&mut self.exporter, &mut self.report);
+            send(&mut self.exporter, &mut self.counts);
         }
     }
 
@@ -151,46 +152,34 @@ impl<S: Sink> Desk<()> for Output<S> {
     ghost stays = { λ s dropped none. (pulls-none s dropped none, goes-on s) };
 }
 
-/// Counts spans, until a count would pass 2^64-1: from then on nothing is counted.
-fn count(report: &mut Option<Report>, what: Count, spans: u64)
-    ensures { Adds report.old (at_count what spans) report.new }
+/// The report of what was counted, unless a count would have passed 2^64-1.
+fn report_of(counts: Tally<Report>) -> Option<Report>
+    ensures { result ≡ report_of counts }
 {
-    if let Some(numbers) = report {
-        if numbers.add(what, spans).is_err() {
-            *report = None;
-        }
-    }
-}
-
-/// Counts what a reply tells, until a count would pass 2^64-1: from then on nothing is counted.
-fn count_replied(report: &mut Option<Report>, reply: &Reply)
-    ensures { Adds report.old (received_by reply.now) report.new }
-{
-    if let Some(numbers) = report {
-        // For the proof alone, and of no effect: `add` says that a report has nine numbers, and a `Counter` doesn't.
-        let mut nine = *numbers;
-        let _ = nine.add(Count::Received, 0);
-        if !count_reply(numbers, reply) {
-            *report = None;
-        }
+    if counts.is_full() {
+        None
+    } else {
+        Some(counts.end())
     }
 }
 
 /// Sends the batch, and counts what became of its spans.
-fn send<S: Sink>(exporter: &mut Exporter<LineSink<S>>, report: &mut Option<Report>)
+fn send<S: Sink>(exporter: &mut Exporter<LineSink<S>>, counts: &mut Tally<Report>)
     requires unnamed { exporter.old.names ≡ [] }
+    requires nine { length counts.old.numbers ≡ 9 }
     ensures emptied { exporter.new.batch ≡ [] }
     ensures unnamed { exporter.new.names ≡ [] }
     ensures size { exporter.new.size ≡ exporter.old.size }
     ensures ends { exporter.new.ends ≡ exporter.old.ends }
     ensures sent { (flushed : Flushed) × Sends exporter.old.sink exporter.old.batch flushed exporter.new.sink
-        × Adds report.old (λ count. counted_for count flushed) report.new }
+        × Adds (report_of counts.old) (λ count. counted_for count flushed) (report_of counts.new) }
     ensures room { length exporter.new.batch < exporter.new.size }
-    ensures goes_on { GoesOn (exporter.old, report.old) (exporter.new, report.new) }
+    ensures nine { length counts.new.numbers ≡ 9 }
+    ensures goes_on { GoesOn (exporter.old, report_of counts.old) (exporter.new, report_of counts.new) }
 {
     match exporter.flush() {
-        Flushed::Handed(spans) => count(report, Count::Handed, spans),
-        Flushed::BatchDropped(spans, reason) => count(report, Count::Dropped(reason), spans),
+        Flushed::Handed(spans) => counts.count(Count::Handed, spans),
+        Flushed::BatchDropped(spans, reason) => counts.count(Count::Dropped(reason), spans),
         Flushed::Empty => {}
     }
 }
